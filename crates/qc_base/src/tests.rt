@@ -1,0 +1,49 @@
+//! Reads and writes over memory.
+
+use crate::{Failed, MemShelf, MemSink, Name, ReadFault, read_whole, write_all};
+use std::test::Fail;
+
+#[test]
+fn a_file_longer_than_a_piece_is_read_whole(rt: HostRuntime) -> Result<(), Fail> {
+    let alloc = rt.alloc();
+    let content = vec![in alloc; 7u8; 100_000]?;
+    let mut shelf = MemShelf::new(alloc, Vec::new(alloc));
+    shelf.add("a", &content)?;
+    let read = read_whole(alloc, &mut shelf, "a", 100_000)?;
+    assert!(rt; read.as_slice() == content.as_slice());
+    assert!(rt; read_whole(alloc, &mut shelf, "a", 99_999).err() == Some(ReadFault::Long));
+    assert!(rt; read_whole(alloc, &mut shelf, "b", 100_000).err() == Some(ReadFault::Failed));
+    Ok(())
+}
+
+#[test]
+fn a_file_added_again_is_replaced(rt: HostRuntime) -> Result<(), Fail> {
+    let alloc = rt.alloc();
+    let mut shelf = MemShelf::new(alloc, Vec::new(alloc));
+    shelf.add("a", b"first")?;
+    shelf.add("b", b"other")?;
+    shelf.add("a", b"second")?;
+    assert!(rt; shelf.content("a") == Some(b"second".as_slice()));
+    assert!(rt; shelf.content("b") == Some(b"other".as_slice()));
+    assert!(rt; shelf.content("c").is_none());
+    Ok(())
+}
+
+#[test]
+fn bytes_are_handed_over_piece_by_piece(rt: HostRuntime) -> Result<(), Fail> {
+    let alloc = rt.alloc();
+    let mut sink = MemSink::new(alloc, 3, 8, Vec::new(alloc))?;
+    assert!(rt; write_all(&mut sink, b"12345678") == Ok(()));
+    assert!(rt; write_all(&mut sink, b"") == Ok(()));
+    assert!(rt; write_all(&mut sink, b"9") == Err(Failed));
+    assert!(rt; sink.bytes() == b"12345678".as_slice());
+    Ok(())
+}
+
+#[test]
+fn names_are_their_bytes(rt: HostRuntime) -> Result<(), Fail> {
+    let name = Name::from_bytes(rt.alloc(), b"q")?;
+    assert!(rt; name.copy(rt.alloc())? == name);
+    assert!(rt; name.bytes() == b"q".as_slice());
+    Ok(())
+}

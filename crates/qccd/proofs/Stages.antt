@@ -1,0 +1,52 @@
+-- Stages have one outcome, and a file is read as its text says.
+use Rattle.std.proofs.Common.{◌≡◌, List, ℕ, Option, Some, None, Result, Ok, Err, refl, sym, ◌∙◌, subst}
+use Rattle.std.specs.Prelude.{IfSome}
+use Rattle.std.proofs.lemmas.Option.{same_Some, none-some}
+use Rattle.qccd.specs.declared.answer.File.{File}
+use Rattle.qccd.specs.declared.answer.Answer.{Answer}
+use Rattle.qccd.specs.declared.answer.Answer.TheVariants as answers
+use Rattle.qccd.specs.Stages.{GoesOn, Then}
+use Rattle.qccd.specs.Prepare.{bytes_of, Reads, FileOf}
+
+-- a stage has at most one outcome
+abbrev pub IsOne : {X : Type 0} → (Result X Answer → Type 0) → Type 0
+IsOne {X} stage = (a b : Result X Answer) → stage a → stage b → a ≡ b
+
+goes_on-one : {X Y : Type 0} (next : X → Result Y Answer → Type 0) (given : Result X Answer) (a b : Result Y Answer) → ((x : X) → IsOne (next x)) → GoesOn next given a → GoesOn next given b → a ≡ b
+goes_on-one next (Ok x) a b one p q = one x a b p q
+goes_on-one next (Err answer) a b one p q = p ∙ sym q
+
+pub then-one : {X Y : Type 0} (first : Result X Answer → Type 0) (next : X → Result Y Answer → Type 0) → IsOne first → ((x : X) → IsOne (next x)) → IsOne (Then first next)
+then-one first next one one_next a b p q =
+    goes_on-one next p.given a b one_next p.goes_on (subst (λ given. GoesOn next given b) (sym (one p.given q.given p.is q.is)) q.goes_on)
+
+reads-one : {X : Type 0} (Spells : List ℕ → X → Type 0) (bytes : List ℕ) → IsOne (Reads Spells bytes)
+reads-one Spells bytes (Ok x) (Ok y) p q = let same = q.1 x p.0 in cc
+reads-one Spells bytes (Ok x) (Err answer) p q = absurd (q.1 x p.0)
+reads-one Spells bytes (Err answer) (Ok x) p q = absurd (p.1 x q.0)
+reads-one Spells bytes (Err a) (Err b) p q = let same = p.0 ∙ sym q.0 in cc
+
+pub file_of-one : {X : Type 0} (file : File) (Spells : List ℕ → X → Type 0) (content : Option (List ℕ)) → IsOne (FileOf file Spells content)
+file_of-one file Spells content = then-one _ _ (λ a b p q. p ∙ sym q) (reads-one Spells)
+
+-- ---- what a reader of bytes found
+
+reads_as : {X : Type 0} (Spells : List ℕ → X → Type 0) (bytes : List ℕ) (read : Option X) (x : X) → read ≡ Some x → IfSome read (Spells bytes) → ((other : X) → Spells bytes other → read ≡ Some other) → Reads Spells bytes (Ok x)
+reads_as Spells bytes None x e found only = absurd (none-some x e)
+reads_as Spells bytes (Some y) x e found only = (subst (Spells bytes) (same_Some y x e) found, λ other text. sym (same_Some x other (sym e ∙ only other text)))
+
+pub file_is : {X : Type 0} (file : File) (Spells : List ℕ → X → Type 0) (content : Option (List ℕ)) (bytes shown : List ℕ) (read : Option X) (x : X) → bytes_of file content ≡ Ok bytes → shown ≡ bytes → read ≡ Some x
+    → IfSome read (Spells shown) → ((other : X) → Spells shown other → read ≡ Some other) → FileOf file Spells content (Ok x)
+file_is file Spells content bytes shown read x whole same e found only = record {
+  given = Ok bytes;
+  is = sym whole;
+  goes_on = subst (λ (b : List ℕ). Reads Spells b (Ok x)) same (reads_as Spells shown read x e found only);
+}
+
+pub file_is_none : {X : Type 0} (file : File) (Spells : List ℕ → X → Type 0) (content : Option (List ℕ)) (bytes shown : List ℕ) (read : Option X) → bytes_of file content ≡ Ok bytes → shown ≡ bytes → read ≡ None
+    → ((other : X) → Spells shown other → read ≡ Some other) → FileOf file Spells content (Err answers.Unbuilt)
+file_is_none file Spells content bytes shown read whole same e only = record {
+  given = Ok bytes;
+  is = sym whole;
+  goes_on = subst (λ (b : List ℕ). Reads Spells b (Err answers.Unbuilt)) same (refl, λ x text. none-some x (sym e ∙ only x text));
+}

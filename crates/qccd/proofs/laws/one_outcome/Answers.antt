@@ -1,0 +1,5 @@
+use Rattle.qccd.proofs.Outcomes.{prepares-one}
+use Rattle.qccd.proofs.laws.one_outcome.Goals as goal
+
+pub returns : goal.returns
+returns c = prepares-one

@@ -1,0 +1,66 @@
+-- What the words and the files come to: a trap, a circuit and a placement, or a refusal.
+use Rattle.std.specs.Prelude.{◌≡◌, ℕ, ◌^◌, nat_le, List, length, Option, Some, None, Result, Ok, Err, if◌then◌else◌}
+use Rattle.qc_base.specs.Shelf.{Contents}
+use Rattle.circuit_core.specs.Circuit.{Parts, qubit_count}
+use Rattle.trap_model.specs.Trap.{Lists}
+use Rattle.step_rules.specs.Setting.{Setting, setting_of}
+use Rattle.qccd.specs.declared.answer.File.{File}
+use Rattle.qccd.specs.declared.answer.File.TheVariants.{Circuit, Trap}
+use Rattle.qccd.specs.declared.answer.Answer.{Answer}
+use Rattle.qccd.specs.declared.answer.Answer.TheVariants as answers
+use Rattle.qccd.specs.Request.{Asked, request_of}
+use Rattle.qccd.specs.Forms.{IsCxText, IsZoneText}
+use Rattle.qccd.specs.Filling.{declared_qubits, filled, room}
+use Rattle.qccd.specs.Stages.{Then, Is}
+
+-- the most bytes of a file
+abbrev pub limit_of : File → ℕ
+limit_of Circuit = 2 ^ 20
+limit_of Trap = 2 ^ 18
+
+-- the bytes of a file that can be read and isn't too long
+abbrev pub bytes_of : File → Option (List ℕ) → Result (List ℕ) Answer
+bytes_of file None = Err (answers.ReadFault file)
+bytes_of file (Some bytes) = if nat_le (length bytes) (limit_of file) then Ok bytes else Err (answers.Long file)
+
+-- the bytes are the text of this and of nothing else, or no text, which isn't built yet
+abbrev pub Reads : {X : Type 0} → (List ℕ → X → Type 0) → List ℕ → Result X Answer → Type 0
+Reads {X} Spells bytes (Ok x) = Spells bytes x × ((other : X) → Spells bytes other → other ≡ x)
+Reads {X} Spells bytes (Err answer) = (answer ≡ answers.Unbuilt) × ((x : X) → Spells bytes x → ⊥)
+
+-- what a file with this content, or without one, comes to
+abbrev pub FileOf : {X : Type 0} → File → (List ℕ → X → Type 0) → Option (List ℕ) → Result X Answer → Type 0
+FileOf file Spells content = Then (Is (bytes_of file content)) (Reads Spells)
+
+abbrev pub CircuitOf : Option (List ℕ) → Result Parts Answer → Type 0
+CircuitOf content = FileOf Circuit IsCxText content
+
+abbrev pub TrapOf : Option (List ℕ) → Result Lists Answer → Type 0
+TrapOf content = FileOf Trap IsZoneText content
+
+-- the qubits in declared order, where there is room; another placement isn't built yet
+abbrev pub placed : Parts → Lists → Result Setting Answer
+placed circuit trap = if nat_le (qubit_count circuit) (room trap.zones) then Ok (setting_of trap circuit (filled trap.zones (declared_qubits circuit))) else Err answers.Unbuilt
+
+-- what a read of each file finds under a name
+abbrev pub Found : Type 0
+Found = File → Contents
+
+-- what the shelf holds
+abbrev pub all_of : Contents → Found
+all_of contents file = contents
+
+-- the same, but one file is missing
+abbrev pub all_but : File → Contents → Found
+all_but Circuit contents Circuit name = None
+all_but Circuit contents Trap name = contents name
+all_but Trap contents Circuit name = contents name
+all_but Trap contents Trap name = None
+
+-- The words name a circuit and a trap; each file is read and understood, the circuit first; then the qubits are placed.
+abbrev pub Prepares : Found → List (List ℕ) → Result Setting Answer → Type 0
+Prepares found words =
+    Then (Is (request_of words)) (λ (asked : Asked).
+    Then (CircuitOf (found Circuit asked.circuit)) (λ circuit.
+    Then (TrapOf (found Trap asked.trap)) (λ trap.
+    Is (placed circuit trap))))

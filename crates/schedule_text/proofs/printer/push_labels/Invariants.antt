@@ -1,0 +1,7 @@
+use Rattle.std.proofs.Common.{◌≡◌, ◌++◌, take, codes}
+use Rattle.std.specs.List.{flat_map}
+use Rattle.schedule_text.specs.Text.{label}
+use Rattle.schedule_text.proofs.printer.push_labels.Given as goal
+
+abbrev pub invariant-loop-qubit : goal.invariant-loop-qubit
+invariant-loop-qubit l = l.out.items ≡ l.fn.out.items ++ flat_map (λ qubit. codes " " ++ label l.circuit qubit) (take l.qubit-index l.list)

@@ -1,0 +1,63 @@
+-- The text of a schedule: the placement, then the steps with their actions, each on a line of its own. The format is this project's.
+use Rattle.std.specs.Prelude.{ℕ, ◌+◌, ◌-◌, nat_lt, if◌then◌else◌, List, [], ◌∷◌, ◌++◌, length, codes, decimal, slice_get}
+use Rattle.std.specs.List.{flat_map}
+use Rattle.std.specs.Option.{option_map_or}
+use Rattle.qc_base.specs.declared.ids.Qubit.{Qubit}
+use Rattle.circuit_core.specs.declared.circuit.Reg.{Reg}
+use Rattle.circuit_core.specs.declared.op.Op.{Op}
+use Rattle.circuit_core.specs.declared.op.Op.TheVariants.{Cx}
+use Rattle.circuit_core.specs.Circuit.{Parts}
+use Rattle.trap_model.specs.declared.parts.ZonePart.{ZonePart}
+use Rattle.step_rules.specs.declared.action.Action.{Action}
+use Rattle.step_rules.specs.declared.action.Action.TheVariants as actions
+use Rattle.step_rules.specs.Placement.{ion_of}
+use Rattle.step_rules.specs.Setting.{Setting, qubits_of}
+
+-- a qubit by its register and its index there
+abbrev pub label_in : List Reg → ℕ → List ℕ
+label_in [] index = []
+label_in (reg ∷ regs) index = if nat_lt index reg.size then reg.name ++ codes "[" ++ decimal index ++ codes "]" else label_in regs (index - reg.size)
+
+abbrev pub label : Parts → Qubit → List ℕ
+label circuit qubit = label_in circuit.qregs qubit.0
+
+-- an operation, as a circuit file has it
+abbrev pub op_text : Parts → Op → List ℕ
+op_text circuit (Cx control target cond) = codes "CX " ++ label circuit control ++ codes "," ++ label circuit target ++ codes ";"
+
+-- the qubits of a zone
+abbrev pub place_line : Parts → ZonePart → List Qubit → List ℕ
+place_line circuit zone list = codes "place " ++ zone.name ++ flat_map (λ (qubit : Qubit). codes " " ++ label circuit qubit) list ++ codes "\n"
+
+-- a line for each zone
+abbrev pub place_lines : Parts → List ZonePart → List (List Qubit) → List ℕ
+place_lines circuit [] lists = []
+place_lines circuit (zone ∷ zones) [] = []
+place_lines circuit (zone ∷ zones) (list ∷ lists) = place_line circuit zone list ++ place_lines circuit zones lists
+
+-- a part of that number, printed
+abbrev pub at : {A : Type 0} → (A → List ℕ) → List A → ℕ → List ℕ
+at print parts number = option_map_or print (slice_get parts number) []
+
+-- the ions of an operation, in the order of its qubits
+abbrev pub ion_words : List (List Qubit) → Op → List ℕ
+ion_words placement op = flat_map (λ (qubit : Qubit). codes " " ++ decimal (ion_of placement qubit).0) (qubits_of op)
+
+-- the number of an operation, its ions and its text
+abbrev pub op_line : Setting → ℕ → Op → List ℕ
+op_line setting number op =
+    decimal number ++ codes " ions" ++ ion_words setting.placement op ++ codes " : " ++ op_text setting.circuit op ++ codes "\n"
+
+-- a number without a zone or an operation prints nothing
+abbrev pub action_line : Setting → Action → List ℕ
+action_line setting (actions.Op zone op) = codes "op " ++ at (λ (part : ZonePart). part.name) setting.trap.zones zone.0 ++ codes " " ++ at (op_line setting op.0) setting.circuit.ops op.0
+
+-- each step with its number, and a line for each of its actions
+abbrev pub step_lines : Setting → ℕ → List (List Action) → List ℕ
+step_lines setting number [] = []
+step_lines setting number (step ∷ steps) = codes "step " ++ decimal number ++ codes "\n" ++ flat_map (action_line setting) step ++ step_lines setting (number + 1) steps
+
+abbrev pub schedule_text : Setting → List (List Action) → List ℕ
+schedule_text setting steps =
+    codes "qccd schedule 1\n" ++ place_lines setting.circuit setting.trap.zones setting.placement
+    ++ codes "steps " ++ decimal (length steps) ++ codes "\n" ++ step_lines setting 1 steps ++ codes "end\n"

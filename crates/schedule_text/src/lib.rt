@@ -1,0 +1,6 @@
+//! The text of a schedule.
+#![tactic(auto)]
+
+mod printer;
+
+pub use printer::print;

@@ -1,0 +1,222 @@
+//! The text of a schedule.
+
+ghost use Rattle.std.specs.Prelude.{◌≡◌, ℕ, ◌+◌, ◌<◌, ◌^◌, ◌++◌, ◌∷◌, [], List, length, OnOk, IfOk, decimal, codes};
+ghost use Rattle.std.specs.List.{flat_map};
+ghost use Rattle.step_rules.specs.Placement.{reading_order, place_of};
+ghost use Rattle.step_rules.specs.Setting.{setting_of, qubits_of};
+ghost use Rattle.schedule_text.specs.Text.{label, op_text, place_line, place_lines, op_line, action_line, step_lines, schedule_text, ion_words};
+
+use circuit_core::{Circuit, Op};
+use itoa::Buffer;
+use qc_base::{NoMemory, Qubit};
+use std::alloc::Global;
+use step_rules::{Action, Placement, Schedule, Step};
+use trap_model::{Trap, ZonePart};
+
+fn push_number(out: &mut Vec<u8>, number: u64) -> Result<(), NoMemory>
+    ensures { OnOk result (out.new.items ≡ out.old.items ++ decimal number) }
+{
+    let mut buffer = Buffer::new();
+    out.extend_from_slice(buffer.format(number).as_bytes())?;
+    Ok(())
+}
+
+fn push_label(out: &mut Vec<u8>, circuit: &Circuit, qubit: Qubit) -> Result<(), NoMemory>
+    ensures { OnOk result (out.new.items ≡ out.old.items ++ label circuit.now qubit) }
+{
+    let mut index = qubit.0;
+    for reg in circuit.qregs() {
+        if index < reg.size {
+            out.extend_from_slice(reg.name.bytes())?;
+            out.extend_from_slice(b"[")?;
+            push_number(out, index as u64)?;
+            out.extend_from_slice(b"]")?;
+            return Ok(());
+        }
+        index -= reg.size;
+    }
+    Ok(())
+}
+
+fn push_op(out: &mut Vec<u8>, circuit: &Circuit, op: &Op) -> Result<(), NoMemory>
+    ensures { OnOk result (out.new.items ≡ out.old.items ++ op_text circuit.now op.now) }
+{
+    match op {
+        Op::Cx {
+            control,
+            target,
+            ..
+        } => {
+            out.extend_from_slice(b"CX ")?;
+            push_label(out, circuit, *control)?;
+            out.extend_from_slice(b",")?;
+            push_label(out, circuit, *target)?;
+            out.extend_from_slice(b";")?;
+        }
+    }
+    Ok(())
+}
+
+fn push_place(
+    out: &mut Vec<u8>,
+    circuit: &Circuit,
+    zone: &ZonePart,
+    list: &[Qubit],
+) -> Result<(), NoMemory>
+    ensures { OnOk result (out.new.items ≡ out.old.items ++ place_line circuit.now zone.now list.now) }
+{
+    out.extend_from_slice(b"place ")?;
+    out.extend_from_slice(zone.name.bytes())?;
+    push_labels(out, circuit, list)?;
+    out.extend_from_slice(b"\n")?;
+    Ok(())
+}
+
+fn push_labels(out: &mut Vec<u8>, circuit: &Circuit, list: &[Qubit]) -> Result<(), NoMemory>
+    ensures { OnOk result (out.new.items ≡ out.old.items ++ flat_map (λ qubit. codes " " ++ label circuit.now qubit) list.now) }
+{
+    for qubit in list {
+        out.extend_from_slice(b" ")?;
+        push_label(out, circuit, *qubit)?;
+    }
+    Ok(())
+}
+
+fn push_places(
+    out: &mut Vec<u8>,
+    circuit: &Circuit,
+    trap: &Trap,
+    placement: &Placement,
+) -> Result<(), NoMemory>
+    ensures { OnOk result (out.new.items ≡ out.old.items ++ place_lines circuit.now trap.now.zones placement.now) }
+{
+    let lists = placement.lists();
+    for (k, zone) in trap.zones().iter().enumerate() {
+        if k < lists.len() {
+            push_place(out, circuit, zone, lists[k].items())?;
+        }
+    }
+    Ok(())
+}
+
+fn push_ions(out: &mut Vec<u8>, placement: &Placement, op: &Op) -> Result<(), NoMemory>
+    requires { length (reading_order placement.now) < 2 ^ 32 }
+    ensures { OnOk result (out.new.items ≡ out.old.items ++ ion_words placement.now op.now) }
+{
+    match op {
+        Op::Cx {
+            control,
+            target,
+            ..
+        } => {
+            out.extend_from_slice(b" ")?;
+            push_number(out, placement.ion_of(*control).0 as u64)?;
+            out.extend_from_slice(b" ")?;
+            push_number(out, placement.ion_of(*target).0 as u64)?;
+        }
+    }
+    Ok(())
+}
+
+fn push_op_line(
+    out: &mut Vec<u8>,
+    trap: &Trap,
+    circuit: &Circuit,
+    placement: &Placement,
+    number: u32,
+    op: &Op,
+) -> Result<(), NoMemory>
+    requires { length (reading_order placement.now) < 2 ^ 32 }
+    ensures { OnOk result (out.new.items ≡ out.old.items ++ op_line (setting_of trap.now circuit.now placement.now) number op.now) }
+{
+    let _ = trap;
+    push_number(out, number as u64)?;
+    out.extend_from_slice(b" ions")?;
+    push_ions(out, placement, op)?;
+    out.extend_from_slice(b" : ")?;
+    push_op(out, circuit, op)?;
+    out.extend_from_slice(b"\n")?;
+    Ok(())
+}
+
+fn push_action(
+    out: &mut Vec<u8>,
+    trap: &Trap,
+    circuit: &Circuit,
+    placement: &Placement,
+    action: &Action,
+) -> Result<(), NoMemory>
+    requires { length (reading_order placement.now) < 2 ^ 32 }
+    ensures { OnOk result (out.new.items ≡ out.old.items ++ action_line (setting_of trap.now circuit.now placement.now) action.now) }
+{
+    match action {
+        Action::Op { zone, op } => {
+            out.extend_from_slice(b"op ")?;
+            if let Some(part) = trap.zones().get(zone.0 as usize) {
+                out.extend_from_slice(part.name.bytes())?;
+            }
+            out.extend_from_slice(b" ")?;
+            if let Some(operation) = circuit.op(*op) {
+                push_op_line(out, trap, circuit, placement, op.0, operation)?;
+            }
+        }
+    }
+    Ok(())
+}
+
+fn push_step(
+    out: &mut Vec<u8>,
+    trap: &Trap,
+    circuit: &Circuit,
+    placement: &Placement,
+    actions: &[Action],
+) -> Result<(), NoMemory>
+    requires { length (reading_order placement.now) < 2 ^ 32 }
+    ensures { OnOk result (out.new.items ≡ out.old.items ++ flat_map (action_line (setting_of trap.now circuit.now placement.now)) actions.now) }
+{
+    for action in actions {
+        push_action(out, trap, circuit, placement, action)?;
+    }
+    Ok(())
+}
+
+fn push_steps(
+    out: &mut Vec<u8>,
+    trap: &Trap,
+    circuit: &Circuit,
+    placement: &Placement,
+    steps: &[Step],
+) -> Result<(), NoMemory>
+    requires { length (reading_order placement.now) < 2 ^ 32 }
+    ensures { OnOk result (out.new.items ≡ out.old.items ++ step_lines (setting_of trap.now circuit.now placement.now) 1 steps.now) }
+{
+    for (k, step) in steps.iter().enumerate() {
+        out.extend_from_slice(b"step ")?;
+        push_number(out, k as u64 + 1)?;
+        out.extend_from_slice(b"\n")?;
+        push_step(out, trap, circuit, placement, step.actions())?;
+    }
+    Ok(())
+}
+
+/// The text of a schedule from a placement.
+pub fn print(
+    alloc: Global,
+    trap: &Trap,
+    circuit: &Circuit,
+    placement: &Placement,
+    schedule: &Schedule,
+) -> Result<Vec<u8>, NoMemory>
+    requires { length (reading_order placement.now) < 2 ^ 32 }
+    ensures { IfOk result (λ text. text.items ≡ schedule_text (setting_of trap.now circuit.now placement.now) schedule.now) }
+{
+    let mut out = Vec::new(alloc);
+    out.extend_from_slice(b"qccd schedule 1\n")?;
+    push_places(&mut out, circuit, trap, placement)?;
+    out.extend_from_slice(b"steps ")?;
+    push_number(&mut out, schedule.steps().len() as u64)?;
+    out.extend_from_slice(b"\n")?;
+    push_steps(&mut out, trap, circuit, placement, schedule.steps())?;
+    out.extend_from_slice(b"end\n")?;
+    Ok(out)
+}
