@@ -9,7 +9,7 @@ use Rattle.qccd.specs.declared.answer.File.{File}
 use Rattle.qccd.specs.declared.answer.File.TheVariants.{Circuit, Trap}
 use Rattle.qccd.specs.declared.answer.Answer.{Answer}
 use Rattle.qccd.specs.declared.answer.Answer.TheVariants as answers
-use Rattle.qccd.specs.Request.{Asked, request_of}
+use Rattle.qccd.specs.Wanted.{Files, files_of}
 use Rattle.qccd.specs.Forms.{IsCxText, IsZoneText}
 use Rattle.qccd.specs.Stages.{Then, Is}
 use Rattle.qccd.specs.Prepare.{Found, all_of, all_but, Prepares, CircuitOf, TrapOf, placed}
@@ -18,10 +18,10 @@ use Rattle.qccd.proofs.Stages.{IsOne, then-one, file_of-one}
 
 -- ---- the stages together
 
-pub at_circuit : (found : Found) (words : List (List ℕ)) (asked : Asked) (answer : Answer) → request_of words ≡ Ok asked → CircuitOf (found Circuit asked.circuit) (Err answer) → Prepares found words (Err answer)
+pub at_circuit : (found : Found) (words : List (List ℕ)) (asked : Files) (answer : Answer) → files_of words ≡ Ok asked → CircuitOf (found Circuit asked.circuit) (Err answer) → Prepares found words (Err answer)
 at_circuit found words asked answer request stops = record { given = Ok asked; is = sym request; goes_on = record { given = Err answer; is = stops; goes_on = refl } }
 
-pub at_trap : (found : Found) (words : List (List ℕ)) (asked : Asked) (circuit : Parts) (answer : Answer) → request_of words ≡ Ok asked → CircuitOf (found Circuit asked.circuit) (Ok circuit)
+pub at_trap : (found : Found) (words : List (List ℕ)) (asked : Files) (circuit : Parts) (answer : Answer) → files_of words ≡ Ok asked → CircuitOf (found Circuit asked.circuit) (Ok circuit)
     → TrapOf (found Trap asked.trap) (Err answer) → Prepares found words (Err answer)
 at_trap found words asked circuit answer request is stops = record {
   given = Ok asked;
@@ -29,7 +29,7 @@ at_trap found words asked circuit answer request is stops = record {
   goes_on = record { given = Ok circuit; is = is; goes_on = record { given = Err answer; is = stops; goes_on = refl } };
 }
 
-pub at_placement : (found : Found) (words : List (List ℕ)) (asked : Asked) (circuit : Parts) (trap : Lists) (outcome : Result Setting Answer) → request_of words ≡ Ok asked → CircuitOf (found Circuit asked.circuit) (Ok circuit)
+pub at_placement : (found : Found) (words : List (List ℕ)) (asked : Files) (circuit : Parts) (trap : Lists) (outcome : Result Setting Answer) → files_of words ≡ Ok asked → CircuitOf (found Circuit asked.circuit) (Ok circuit)
     → TrapOf (found Trap asked.trap) (Ok trap) → outcome ≡ placed circuit trap → Prepares found words outcome
 at_placement found words asked circuit trap outcome request is also placing = record {
   given = Ok asked;
@@ -38,10 +38,10 @@ at_placement found words asked circuit trap outcome request is also placing = re
 }
 
 -- a file without content cannot be read
-missing_circuit : (words : List (List ℕ)) (contents : Contents) (asked : Asked) → request_of words ≡ Ok asked → Prepares (all_but Circuit contents) words (Err (answers.ReadFault Circuit))
+missing_circuit : (words : List (List ℕ)) (contents : Contents) (asked : Files) → files_of words ≡ Ok asked → Prepares (all_but Circuit contents) words (Err (answers.ReadFault Circuit))
 missing_circuit words contents asked request = at_circuit (all_but Circuit contents) words asked (answers.ReadFault Circuit) request (record { given = Err (answers.ReadFault Circuit); is = refl; goes_on = refl })
 
-missing_trap : (words : List (List ℕ)) (contents : Contents) (asked : Asked) (circuit : Parts) → request_of words ≡ Ok asked → CircuitOf (contents asked.circuit) (Ok circuit) → Prepares (all_but Trap contents) words (Err (answers.ReadFault Trap))
+missing_trap : (words : List (List ℕ)) (contents : Contents) (asked : Files) (circuit : Parts) → files_of words ≡ Ok asked → CircuitOf (contents asked.circuit) (Ok circuit) → Prepares (all_but Trap contents) words (Err (answers.ReadFault Trap))
 missing_trap words contents asked circuit request is = at_trap (all_but Trap contents) words asked circuit (answers.ReadFault Trap) request is (record { given = Err (answers.ReadFault Trap); is = refl; goes_on = refl })
 
 -- ---- refusals of one file
@@ -49,21 +49,23 @@ missing_trap words contents asked circuit request is = at_trap (all_but Trap con
 abbrev Missing : List (List ℕ) → Contents → File → Type 0
 Missing words contents file = Prepares (all_but file contents) words (Err (answers.ReadFault file))
 
-pub explains_circuit : (contents : Contents) (words : List (List ℕ)) (asked : Asked) (answer : Answer) → request_of words ≡ Ok asked → StopsAt Circuit CircuitOf (contents asked.circuit) answer → Explains contents words answer
+pub explains_circuit : (contents : Contents) (words : List (List ℕ)) (asked : Files) (answer : Answer) → files_of words ≡ Ok asked → StopsAt Circuit CircuitOf (contents asked.circuit) answer → Explains contents words answer
 explains_circuit contents words asked answers.Ok request stops = absurd stops
 explains_circuit contents words asked (answers.ReadFault which) request stops = subst (Missing words contents) (sym stops) (missing_circuit words contents asked request)
 explains_circuit contents words asked (answers.Long which) request stops = at_circuit (all_of contents) words asked (answers.Long which) request stops
 explains_circuit contents words asked answers.WriteFault request stops = absurd stops
 explains_circuit contents words asked answers.NoMemory request stops = tt
+explains_circuit contents words asked answers.Usage request stops = absurd stops
 explains_circuit contents words asked answers.Unbuilt request stops = at_circuit (all_of contents) words asked answers.Unbuilt request stops
 
-pub explains_trap : (contents : Contents) (words : List (List ℕ)) (asked : Asked) (circuit : Parts) (answer : Answer) → request_of words ≡ Ok asked → CircuitOf (contents asked.circuit) (Ok circuit)
+pub explains_trap : (contents : Contents) (words : List (List ℕ)) (asked : Files) (circuit : Parts) (answer : Answer) → files_of words ≡ Ok asked → CircuitOf (contents asked.circuit) (Ok circuit)
     → StopsAt Trap TrapOf (contents asked.trap) answer → Explains contents words answer
 explains_trap contents words asked circuit answers.Ok request is stops = absurd stops
 explains_trap contents words asked circuit (answers.ReadFault which) request is stops = subst (Missing words contents) (sym stops) (missing_trap words contents asked circuit request is)
 explains_trap contents words asked circuit (answers.Long which) request is stops = at_trap (all_of contents) words asked circuit (answers.Long which) request is stops
 explains_trap contents words asked circuit answers.WriteFault request is stops = absurd stops
 explains_trap contents words asked circuit answers.NoMemory request is stops = tt
+explains_trap contents words asked circuit answers.Usage request is stops = absurd stops
 explains_trap contents words asked circuit answers.Unbuilt request is stops = at_trap (all_of contents) words asked circuit answers.Unbuilt request is stops
 
 -- ---- one outcome, and so one answer
@@ -84,4 +86,5 @@ settled contents words before now out_before out_now (answers.ReadFault file) ou
 settled contents words before now out_before out_now (answers.Long file) outcome says is reads writes none quiet = inl (ap answer_to (prepares-one (all_of contents) words (Err (answers.Long file)) outcome says is))
 settled contents words before now out_before out_now answers.WriteFault outcome says is reads writes none quiet = absurd (quiet (writes refl))
 settled contents words before now out_before out_now answers.NoMemory outcome says is reads writes none quiet = inr refl
+settled contents words before now out_before out_now answers.Usage outcome says is reads writes none quiet = inl (ap answer_to (prepares-one (all_of contents) words (Err answers.Usage) outcome says is))
 settled contents words before now out_before out_now answers.Unbuilt outcome says is reads writes none quiet = inl (ap answer_to (prepares-one (all_of contents) words (Err answers.Unbuilt) outcome says is))

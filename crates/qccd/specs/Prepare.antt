@@ -8,7 +8,7 @@ use Rattle.qccd.specs.declared.answer.File.{File}
 use Rattle.qccd.specs.declared.answer.File.TheVariants.{Circuit, Trap}
 use Rattle.qccd.specs.declared.answer.Answer.{Answer}
 use Rattle.qccd.specs.declared.answer.Answer.TheVariants as answers
-use Rattle.qccd.specs.Request.{Asked, request_of}
+use Rattle.qccd.specs.Wanted.{Files, files_of}
 use Rattle.qccd.specs.Forms.{IsCxText, IsZoneText}
 use Rattle.qccd.specs.Filling.{declared_qubits, filled, room}
 use Rattle.qccd.specs.Stages.{Then, Is}
@@ -60,7 +60,7 @@ all_but Trap contents Trap name = None
 -- The words name a circuit and a trap; each file is read and understood, the circuit first; then the qubits are placed.
 abbrev pub Prepares : Found → List (List ℕ) → Result Setting Answer → Type 0
 Prepares found words =
-    Then (Is (request_of words)) (λ (asked : Asked).
+    Then (Is (files_of words)) (λ (asked : Files).
     Then (CircuitOf (found Circuit asked.circuit)) (λ circuit.
     Then (TrapOf (found Trap asked.trap)) (λ trap.
     Is (placed circuit trap))))
