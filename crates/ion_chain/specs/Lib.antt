@@ -1,0 +1,2 @@
+pub mod IonRow
+pub mod Passing
