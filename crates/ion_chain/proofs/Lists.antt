@@ -21,3 +21,10 @@ set_around xs i j x y z apart =
 pub map_around : {X Y : Type 0} (f : X → Y) (xs : List X) (i j : ℕ) (x y z : X) → i ≢ j → map f (slice_set (slice_set (slice_set xs i x) j z) i y) ≡ slice_set (slice_set (map f xs) i (f y)) j (f z)
 map_around f xs i j x y z apart =
     ap (map f) (set_around xs i j x y z apart) ∙ map-set f (slice_set xs i y) j z ∙ ap (λ ys. slice_set ys j (f z)) (map-set f xs i y)
+
+-- two pairs of writes to four places
+pub sets_commute : {X : Type 0} (xs : List X) (a b c d : ℕ) (w x y z : X) → a ≢ c → a ≢ d → b ≢ c → b ≢ d → slice_set (slice_set (slice_set (slice_set xs a w) b x) c y) d z ≡ slice_set (slice_set (slice_set (slice_set xs c y) d z) a w) b x
+sets_commute xs a b c d w x y z ac ad bc bd =
+    ap (λ ys. slice_set ys d z) (set_comm (slice_set xs a w) b c x y bc ∙ ap (λ ys. slice_set ys b x) (set_comm xs a c w y ac))
+    ∙ set_comm (slice_set (slice_set xs c y) a w) b d x z bd
+    ∙ ap (λ ys. slice_set ys b x) (set_comm (slice_set xs c y) a d w z ad)

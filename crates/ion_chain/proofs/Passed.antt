@@ -25,17 +25,17 @@ length-left end count source =
     rw (length-outward, length-take, length-outward) (omega arith)
 
 -- ions that leave in two parts leave together
-pub leaving_in_parts : (end : End) (first then : ℕ) (source : List Ion) → leaving end then (left end first source) ++ leaving end first source ≡ leaving end (first + then) source
-leaving_in_parts end first then source =
+pub leaving_in_parts : (end : End) (first later : ℕ) (source : List Ion) → leaving end later (left end first source) ++ leaving end first source ≡ leaving end (first + later) source
+leaving_in_parts end first later source =
     let o : List Ion = outward end source in
     let n : ℕ = length source in
-    let e : n - first - then ≡ n - (first + then) = omega arith in
-    rw (length-left end first source, outward-outward end (take (n - first) o), e) (drop_in_parts (n - (first + then)) (n - first) o (omega arith))
+    let e : n - first - later ≡ n - (first + later) = omega arith in
+    rw (length-left end first source, outward-outward end (take (n - first) o), e) (drop_in_parts (n - (first + later)) (n - first) o (omega arith))
 
 -- ions that come in by two parts come in together
 pub joined-joined : (into : End) (first later target : List Ion) → joined into later (joined into first target) ≡ joined into (later ++ first) target
 joined-joined A first later target = simp (reverse-reverse, reverse-append, append_assoc)
-joined-joined B first later target = simp (reverse-reverse, reverse-append, append_assoc)
+joined-joined B first later target = simp (reverse-append, append_assoc)
 
 pub all_stay : (end into : End) (count : ℕ) (source target : List Ion) → IsPermutation (source ++ target) (left end count source ++ joined into (leaving end count source) target)
 all_stay end into count source target =
@@ -45,10 +45,10 @@ all_stay end into count source target =
     let cut : (stay ++ go) ++ target ≡ o ++ target = ap (λ (x : List Ion). x ++ target) (take-append-drop (length source - count) o) in
     let read : IsPermutation (source ++ target) (o ++ target) = IsPermutation-append source o target target (IsPermutation-outward end source) (IsPermutation-refl target) in
     let moved : IsPermutation (go ++ target) (outward into target ++ reverse go) =
-        IsPermutation-trans (go ++ target) (target ++ go) _ (IsPermutation-append_comm go target)
-        (IsPermutation-append target (outward into target) go (reverse go) (IsPermutation-outward into target) (IsPermutation-reverse go)) in
+    IsPermutation-trans (go ++ target) (target ++ go) _ (IsPermutation-append_comm go target)
+    (IsPermutation-append target (outward into target) go (reverse go) (IsPermutation-outward into target) (IsPermutation-reverse go)) in
     let came : IsPermutation (go ++ target) (joined into go target) =
-        IsPermutation-trans (go ++ target) (outward into target ++ reverse go) _ moved (IsPermutation-outward into (outward into target ++ reverse go)) in
+    IsPermutation-trans (go ++ target) (outward into target ++ reverse go) _ moved (IsPermutation-outward into (outward into target ++ reverse go)) in
     let both : IsPermutation (stay ++ (go ++ target)) (left end count source ++ joined into go target) =
-        IsPermutation-append stay (left end count source) (go ++ target) (joined into go target) (IsPermutation-outward end stay) came in
+    IsPermutation-append stay (left end count source) (go ++ target) (joined into go target) (IsPermutation-outward end stay) came in
     IsPermutation-trans (source ++ target) (o ++ target) _ read (rw (← cut, append_assoc) both)

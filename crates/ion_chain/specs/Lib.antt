@@ -1,2 +1,3 @@
 pub mod IonRow
 pub mod Passing
+pub mod Transfer

@@ -3,10 +3,13 @@
 
 mod chain;
 mod laws;
-mod places;
+#[cfg(test)]
+mod tests;
+mod transfer;
 
 pub use chain::Chain;
 pub use laws::{
-    nothing_lost, passing_back, passing_between, passing_in_parts, passing_rule, passing_through,
+    nothing_lost, passing_back, passing_in_parts, passing_rule, passing_through, transfer_between,
+    transfers_in_either_order,
 };
-pub use places::pass_between;
+pub use transfer::Transfer;
