@@ -1,7 +1,6 @@
 -- Cut and changed lists.
-use Rattle.std.proofs.Common.{◌≡◌, ◌≢◌, ℕ, ◌+◌, ◌-◌, ◌≤◌, ◌<◌, List, ◌++◌, map, take, drop, slice_set, slice_index_or, sym, ap, ◌∙◌, arith}
+use Rattle.std.proofs.Common.{◌≡◌, ◌≢◌, ℕ, ◌+◌, ◌-◌, ◌≤◌, List, ◌++◌, map, take, drop, slice_set, sym, ap, ◌∙◌, arith}
 use Rattle.std.proofs.lemmas.List.{set-set, set_comm, map-set, take-append-drop, drop-take, drop-drop}
-use Rattle.std.proofs.Math.Seq.{map-set_same}
 
 parts : {X : Type 0} (k d : ℕ) (xs : List X) → drop k (take (k + d) xs) ++ drop (k + d) xs ≡ drop k xs
 parts k d xs = rw drop-take (sym (ap (λ ys. take d (drop k xs) ++ ys) (drop-drop d k xs)) ∙ take-append-drop d (drop k xs))

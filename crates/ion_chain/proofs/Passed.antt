@@ -1,5 +1,5 @@
 -- What the passing rule gives.
-use Rattle.std.proofs.Common.{◌≡◌, ℕ, ◌+◌, ◌-◌, List, ◌++◌, length, reverse, take, drop, min, refl, sym, ap, ◌∙◌, arith, IsPermutation, append_assoc}
+use Rattle.std.proofs.Common.{◌≡◌, ℕ, ◌+◌, ◌-◌, List, ◌++◌, length, reverse, take, refl, ap, arith, IsPermutation, append_assoc}
 use Rattle.std.proofs.lemmas.List.{reverse-append, reverse-reverse, length-reverse, length-take, take-append-drop}
 use Rattle.std.proofs.lemmas.List.Sorted.{IsPermutation-refl, IsPermutation-reverse, IsPermutation-trans, IsPermutation-append, IsPermutation-append_comm}
 use Rattle.qc_base.specs.declared.ids.Ion.{Ion}

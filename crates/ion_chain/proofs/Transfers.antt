@@ -1,5 +1,5 @@
 -- What a transfer leaves as it was.
-use Rattle.std.proofs.Common.{◌≡◌, ◌≢◌, ℕ, List, [], slice_set, slice_index_or, sym, ◌∙◌}
+use Rattle.std.proofs.Common.{◌≡◌, ◌≢◌, ℕ, List, [], slice_set, sym, ◌∙◌}
 use Rattle.std.proofs.lemmas.List.{get_or-set_other}
 use Rattle.qc_base.specs.declared.ids.Ion.{Ion}
 use Rattle.ion_chain.specs.declared.transfer.Transfer.{Transfer}

@@ -1,5 +1,5 @@
 use Rattle.std.proofs.Common.{◌≡◌, ◌≢◌, ℕ, ◌<◌, List, [], length, map, slice_set, slice_index_or, sym, ap, ◌∙◌}
-use Rattle.std.proofs.lemmas.List.{get_or-map, get_or-set_other, length-set}
+use Rattle.std.proofs.lemmas.List.{get_or-map, get_or-set_other}
 use Rattle.std.proofs.Math.Seq.{map-set_same}
 use Rattle.ion_chain.specs.declared.transfer.Transfer.{Transfer}
 use Rattle.ion_chain.specs.IonRow.{IonRow, ions_of, room_of}
