@@ -1,0 +1,3 @@
+pub mod IonRow
+pub mod Passing
+pub mod Transfer
