@@ -7,7 +7,10 @@ use Rattle.circuit_core.specs.declared.circuit.Reg.{Reg}
 use Rattle.circuit_core.specs.declared.op.Op.{Op}
 use Rattle.circuit_core.specs.declared.op.Op.TheVariants.{Cx}
 use Rattle.circuit_core.specs.Circuit.{Parts}
+use Rattle.qc_base.specs.declared.ids.End.{End}
+use Rattle.qc_base.specs.declared.ids.End.TheVariants.{A, B}
 use Rattle.trap_model.specs.declared.parts.ZonePart.{ZonePart}
+use Rattle.trap_model.specs.Trap.{Lists, place_text}
 use Rattle.step_rules.specs.declared.action.Action.{Action}
 use Rattle.step_rules.specs.declared.action.Action.TheVariants as actions
 use Rattle.step_rules.specs.Placement.{ion_of}
@@ -48,9 +51,44 @@ abbrev pub op_line : Setting → ℕ → Op → List ℕ
 op_line setting number op =
     decimal number ++ codes " ions" ++ ion_words setting.placement op ++ codes " : " ++ op_text setting.circuit op ++ codes "\n"
 
--- a number without a zone or an operation prints nothing
+abbrev pub end_text : End → List ℕ
+end_text A = codes "a"
+end_text B = codes "b"
+
+-- a zone and one of its ends
+abbrev pub zone_end : Lists → ℕ → End → List ℕ
+zone_end trap zone end = place_text trap zone ++ codes " " ++ end_text end
+
+abbrev pub two_places : Lists → ℕ → ℕ → List ℕ
+two_places trap from to = place_text trap from ++ codes " " ++ place_text trap to
+
+-- ---- the line of each kind of action; a number that is no place's, no junction's or no operation's prints nothing
+
+abbrev pub split_line : Lists → ℕ → End → ℕ → List ℕ
+split_line trap zone end count = codes "split " ++ zone_end trap zone end ++ codes " " ++ decimal count ++ codes "\n"
+
+abbrev pub move_line : Lists → ℕ → ℕ → List ℕ
+move_line trap from to = codes "move " ++ two_places trap from to ++ codes "\n"
+
+abbrev pub cross_line : Lists → ℕ → ℕ → ℕ → List ℕ
+cross_line trap junction from to = codes "cross " ++ at (λ name. name) trap.junctions junction ++ codes " " ++ two_places trap from to ++ codes "\n"
+
+abbrev pub merge_line : Lists → ℕ → End → List ℕ
+merge_line trap zone end = codes "merge " ++ zone_end trap zone end ++ codes "\n"
+
+abbrev pub swap_line : Lists → ℕ → ℕ → List ℕ
+swap_line trap zone index = codes "swap " ++ place_text trap zone ++ codes " " ++ decimal index ++ codes "\n"
+
+abbrev pub performed_line : Setting → ℕ → ℕ → List ℕ
+performed_line setting zone op = codes "op " ++ place_text setting.trap zone ++ codes " " ++ at (op_line setting op) setting.circuit.ops op
+
 abbrev pub action_line : Setting → Action → List ℕ
-action_line setting (actions.Op zone op) = codes "op " ++ at (λ (part : ZonePart). part.name) setting.trap.zones zone.0 ++ codes " " ++ at (op_line setting op.0) setting.circuit.ops op.0
+action_line setting (actions.Split zone end count) = split_line setting.trap zone.0 end count
+action_line setting (actions.Move from to) = move_line setting.trap from.0 to.0
+action_line setting (actions.Cross junction from to) = cross_line setting.trap junction.0 from.0 to.0
+action_line setting (actions.Merge zone end) = merge_line setting.trap zone.0 end
+action_line setting (actions.Swap zone index) = swap_line setting.trap zone.0 index
+action_line setting (actions.Op zone op) = performed_line setting zone.0 op.0
 
 -- each step with its number, and a line for each of its actions
 abbrev pub step_lines : Setting → ℕ → List (List Action) → List ℕ

@@ -1,14 +1,13 @@
 //! The text of a schedule.
 
-ghost use Rattle.std.specs.Prelude.{◌≡◌, ℕ, ◌+◌, ◌<◌, ◌^◌, ◌++◌, ◌∷◌, [], List, length, OnOk, IfOk, decimal, codes};
+ghost use Rattle.std.specs.Prelude.{◌≡◌, ℕ, ◌+◌, ◌++◌, ◌∷◌, [], List, OnOk, IfOk, decimal, codes};
 ghost use Rattle.std.specs.List.{flat_map};
-ghost use Rattle.step_rules.specs.Placement.{reading_order, place_of};
 ghost use Rattle.step_rules.specs.Setting.{setting_of, qubits_of};
-ghost use Rattle.schedule_text.specs.Text.{label, op_text, place_line, place_lines, op_line, action_line, step_lines, schedule_text, ion_words};
+ghost use Rattle.schedule_text.specs.Text.{at, label, op_text, place_line, place_lines, op_line, end_text, zone_end, two_places, split_line, move_line, cross_line, merge_line, swap_line, performed_line, action_line, step_lines, schedule_text, ion_words};
 
 use circuit_core::{Circuit, Op};
 use itoa::Buffer;
-use qc_base::{NoMemory, Qubit};
+use qc_base::{End, JunctionId, NoMemory, OpId, PlaceId, Qubit};
 use std::alloc::Global;
 use step_rules::{Action, Placement, Schedule, Step};
 use trap_model::{Trap, ZonePart};
@@ -100,7 +99,6 @@ fn push_places(
 }
 
 fn push_ions(out: &mut Vec<u8>, placement: &Placement, op: &Op) -> Result<(), NoMemory>
-    requires { length (reading_order placement.now) < 2 ^ 32 }
     ensures { OnOk result (out.new.items ≡ out.old.items ++ ion_words placement.now op.now) }
 {
     match op {
@@ -126,7 +124,6 @@ fn push_op_line(
     number: u32,
     op: &Op,
 ) -> Result<(), NoMemory>
-    requires { length (reading_order placement.now) < 2 ^ 32 }
     ensures { OnOk result (out.new.items ≡ out.old.items ++ op_line (setting_of trap.now circuit.now placement.now) number op.now) }
 {
     let _ = trap;
@@ -139,6 +136,133 @@ fn push_op_line(
     Ok(())
 }
 
+fn push_end(out: &mut Vec<u8>, end: End) -> Result<(), NoMemory>
+    ensures { OnOk result (out.new.items ≡ out.old.items ++ end_text end) }
+{
+    match end {
+        End::A => out.extend_from_slice(b"a")?,
+        End::B => out.extend_from_slice(b"b")?,
+    }
+    Ok(())
+}
+
+fn push_zone_end(out: &mut Vec<u8>, trap: &Trap, zone: PlaceId, end: End) -> Result<(), NoMemory>
+    ensures { OnOk result (out.new.items ≡ out.old.items ++ zone_end trap.now zone.0 end) }
+{
+    trap.print_place(zone, out)?;
+    out.extend_from_slice(b" ")?;
+    push_end(out, end)
+}
+
+fn push_two_places(
+    out: &mut Vec<u8>,
+    trap: &Trap,
+    from: PlaceId,
+    to: PlaceId,
+) -> Result<(), NoMemory>
+    ensures { OnOk result (out.new.items ≡ out.old.items ++ two_places trap.now from.0 to.0) }
+{
+    trap.print_place(from, out)?;
+    out.extend_from_slice(b" ")?;
+    trap.print_place(to, out)
+}
+
+fn push_junction(out: &mut Vec<u8>, trap: &Trap, junction: JunctionId) -> Result<(), NoMemory>
+    ensures { OnOk result (out.new.items ≡ out.old.items ++ at (λ name. name) trap.now.junctions junction.0) }
+{
+    if let Some(name) = trap.junctions().get(junction.0 as usize) {
+        out.extend_from_slice(name.bytes())?;
+    }
+    Ok(())
+}
+
+fn push_split(
+    out: &mut Vec<u8>,
+    trap: &Trap,
+    zone: PlaceId,
+    end: End,
+    count: u32,
+) -> Result<(), NoMemory>
+    ensures { OnOk result (out.new.items ≡ out.old.items ++ split_line trap.now zone.0 end count) }
+{
+    out.extend_from_slice(b"split ")?;
+    push_zone_end(out, trap, zone, end)?;
+    out.extend_from_slice(b" ")?;
+    push_number(out, count as u64)?;
+    out.extend_from_slice(b"\n")?;
+    Ok(())
+}
+
+fn push_cross(
+    out: &mut Vec<u8>,
+    trap: &Trap,
+    junction: JunctionId,
+    from: PlaceId,
+    to: PlaceId,
+) -> Result<(), NoMemory>
+    ensures { OnOk result (out.new.items ≡ out.old.items ++ cross_line trap.now junction.0 from.0 to.0) }
+{
+    out.extend_from_slice(b"cross ")?;
+    push_junction(out, trap, junction)?;
+    out.extend_from_slice(b" ")?;
+    push_two_places(out, trap, from, to)?;
+    out.extend_from_slice(b"\n")?;
+    Ok(())
+}
+
+fn push_swap(
+    out: &mut Vec<u8>,
+    trap: &Trap,
+    zone: PlaceId,
+    index: u32,
+) -> Result<(), NoMemory>
+    ensures { OnOk result (out.new.items ≡ out.old.items ++ swap_line trap.now zone.0 index) }
+{
+    out.extend_from_slice(b"swap ")?;
+    trap.print_place(zone, out)?;
+    out.extend_from_slice(b" ")?;
+    push_number(out, index as u64)?;
+    out.extend_from_slice(b"\n")?;
+    Ok(())
+}
+
+fn push_move(out: &mut Vec<u8>, trap: &Trap, from: PlaceId, to: PlaceId) -> Result<(), NoMemory>
+    ensures { OnOk result (out.new.items ≡ out.old.items ++ move_line trap.now from.0 to.0) }
+{
+    out.extend_from_slice(b"move ")?;
+    push_two_places(out, trap, from, to)?;
+    out.extend_from_slice(b"\n")?;
+    Ok(())
+}
+
+fn push_merge(out: &mut Vec<u8>, trap: &Trap, zone: PlaceId, end: End) -> Result<(), NoMemory>
+    ensures { OnOk result (out.new.items ≡ out.old.items ++ merge_line trap.now zone.0 end) }
+{
+    out.extend_from_slice(b"merge ")?;
+    push_zone_end(out, trap, zone, end)?;
+    out.extend_from_slice(b"\n")?;
+    Ok(())
+}
+
+fn push_performed(
+    out: &mut Vec<u8>,
+    trap: &Trap,
+    circuit: &Circuit,
+    placement: &Placement,
+    zone: PlaceId,
+    op: OpId,
+) -> Result<(), NoMemory>
+    ensures { OnOk result (out.new.items ≡ out.old.items ++ performed_line (setting_of trap.now circuit.now placement.now) zone.0 op.0) }
+{
+    out.extend_from_slice(b"op ")?;
+    trap.print_place(zone, out)?;
+    out.extend_from_slice(b" ")?;
+    if let Some(operation) = circuit.op(op) {
+        push_op_line(out, trap, circuit, placement, op.0, operation)?;
+    }
+    Ok(())
+}
+
 fn push_action(
     out: &mut Vec<u8>,
     trap: &Trap,
@@ -146,22 +270,16 @@ fn push_action(
     placement: &Placement,
     action: &Action,
 ) -> Result<(), NoMemory>
-    requires { length (reading_order placement.now) < 2 ^ 32 }
     ensures { OnOk result (out.new.items ≡ out.old.items ++ action_line (setting_of trap.now circuit.now placement.now) action.now) }
 {
-    match action {
-        Action::Op { zone, op } => {
-            out.extend_from_slice(b"op ")?;
-            if let Some(part) = trap.zones().get(zone.0 as usize) {
-                out.extend_from_slice(part.name.bytes())?;
-            }
-            out.extend_from_slice(b" ")?;
-            if let Some(operation) = circuit.op(*op) {
-                push_op_line(out, trap, circuit, placement, op.0, operation)?;
-            }
-        }
+    match *action {
+        Action::Split { zone, end, count } => push_split(out, trap, zone, end, count),
+        Action::Move { from, to } => push_move(out, trap, from, to),
+        Action::Cross { junction, from, to } => push_cross(out, trap, junction, from, to),
+        Action::Merge { zone, end } => push_merge(out, trap, zone, end),
+        Action::Swap { zone, index } => push_swap(out, trap, zone, index),
+        Action::Op { zone, op } => push_performed(out, trap, circuit, placement, zone, op),
     }
-    Ok(())
 }
 
 fn push_step(
@@ -171,7 +289,6 @@ fn push_step(
     placement: &Placement,
     actions: &[Action],
 ) -> Result<(), NoMemory>
-    requires { length (reading_order placement.now) < 2 ^ 32 }
     ensures { OnOk result (out.new.items ≡ out.old.items ++ flat_map (action_line (setting_of trap.now circuit.now placement.now)) actions.now) }
 {
     for action in actions {
@@ -187,7 +304,6 @@ fn push_steps(
     placement: &Placement,
     steps: &[Step],
 ) -> Result<(), NoMemory>
-    requires { length (reading_order placement.now) < 2 ^ 32 }
     ensures { OnOk result (out.new.items ≡ out.old.items ++ step_lines (setting_of trap.now circuit.now placement.now) 1 steps.now) }
 {
     for (k, step) in steps.iter().enumerate() {
@@ -207,7 +323,6 @@ pub fn print(
     placement: &Placement,
     schedule: &Schedule,
 ) -> Result<Vec<u8>, NoMemory>
-    requires { length (reading_order placement.now) < 2 ^ 32 }
     ensures { IfOk result (λ text. text.items ≡ schedule_text (setting_of trap.now circuit.now placement.now) schedule.now) }
 {
     let mut out = Vec::new(alloc);
