@@ -1,0 +1,19 @@
+use Rattle.std.proofs.Common.{sym, ap, ◌∙◌, ◌≡◌, Option, None}
+use Rattle.std.specs.Option.{option_map}
+use Rattle.trap_model.specs.Channels.{split, is_split, split_channel}
+use Rattle.trap_model.proofs.Docks.{split_leads}
+use Rattle.trap_model.proofs.ReadTables.{no_joined, no_number}
+use Rattle.trap_model.proofs.trap.Trap.split_at.Goals as goal
+
+pub returns-in-Some-clause-leads : goal.returns-in-Some-clause-leads
+returns-in-Some-clause-leads c = rw c.in-Some.ensures (split_leads c.args.self.now c.args.zone.0 c.args.«end»)
+
+pub returns-in-None-clause-number : goal.returns-in-None-clause-number
+returns-in-None-clause-number c =
+    let none : split_channel c.args.self.now c.args.zone.0 c.args.«end» ≡ None = ap (option_map (split c.args.zone.0 c.args.«end»)) (no_joined c.args.self.now c.args.zone.0 c.args.«end» c.in-None.ensures) in
+    sym (no_number c.args.self.now (is_split c.args.zone.0 c.args.«end») (split_leads c.args.self.now c.args.zone.0 c.args.«end» ∙ none))
+
+pub returns-in-None-clause-leads : goal.returns-in-None-clause-leads
+returns-in-None-clause-leads c =
+    let none : split_channel c.args.self.now c.args.zone.0 c.args.«end» ≡ None = ap (option_map (split c.args.zone.0 c.args.«end»)) (no_joined c.args.self.now c.args.zone.0 c.args.«end» c.in-None.ensures) in
+    sym none

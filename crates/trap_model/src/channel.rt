@@ -1,0 +1,83 @@
+//! The ways by which ions pass from place to place.
+
+ghost use Rattle.std.specs.Prelude.{◌≡◌};
+ghost use Rattle.trap_model.specs.Joins.{same_end};
+ghost use Rattle.trap_model.specs.Channels.{is_split, is_merge, is_move, is_through, is_cross};
+
+use qc_base::{End, JunctionId, PlaceId};
+
+/// What passes: a part of a zone's ions, a whole chain from slot to slot, or a chain into a zone.
+#[derive(Clone, Copy, Debug, PartialEq, Eq)]
+pub enum Kind {
+    Split,
+    Move,
+    Cross,
+    Merge,
+}
+
+/// A directed way from an end of one place to an end of another. A crossing has its junction.
+#[derive(Clone, Copy, Debug, PartialEq, Eq)]
+pub struct Channel {
+    pub kind: Kind,
+    pub from: PlaceId,
+    pub from_end: End,
+    pub to: PlaceId,
+    pub to_end: End,
+    pub junction: Option<JunctionId>,
+}
+
+// Whether both are the same end.
+pub(crate) fn same_end(end: End, other: End) -> bool
+    ensures { result ≡ same_end end other }
+{
+    end == other
+}
+
+impl Channel {
+    // Whether it splits off by that end of the zone.
+    pub(crate) fn is_split(&self, zone: u32, end: End) -> bool
+        ensures { result ≡ is_split zone end self.now }
+    {
+        match self.kind {
+            Kind::Split => zone == self.from.0 && same_end(end, self.from_end),
+            Kind::Move | Kind::Cross | Kind::Merge => false,
+        }
+    }
+
+    // Whether it merges into the zone by that end.
+    pub(crate) fn is_merge(&self, zone: u32, end: End) -> bool
+        ensures { result ≡ is_merge zone end self.now }
+    {
+        match self.kind {
+            Kind::Merge => zone == self.to.0 && same_end(end, self.to_end),
+            Kind::Split | Kind::Move | Kind::Cross => false,
+        }
+    }
+
+    // Whether it moves from slot to slot.
+    pub(crate) fn is_move(&self, from: u32, to: u32) -> bool
+        ensures { result ≡ is_move from to self.now }
+    {
+        match self.kind {
+            Kind::Move => from == self.from.0 && to == self.to.0,
+            Kind::Split | Kind::Cross | Kind::Merge => false,
+        }
+    }
+
+    // Whether it passes the junction.
+    pub(crate) fn is_through(&self, junction: u32) -> bool
+        ensures { result ≡ is_through junction self.now }
+    {
+        match self.junction {
+            Some(other) => junction == other.0,
+            None => false,
+        }
+    }
+
+    // Whether it crosses the junction from slot to slot.
+    pub(crate) fn is_cross(&self, junction: u32, from: u32, to: u32) -> bool
+        ensures { result ≡ is_cross junction from to self.now }
+    {
+        self.is_through(junction) && from == self.from.0 && to == self.to.0
+    }
+}

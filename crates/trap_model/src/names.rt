@@ -1,0 +1,120 @@
+//! The names of the parts, and what they stand for.
+
+ghost use Rattle.std.specs.Prelude.{◌≡◌, ℕ, ◌+◌, ◌<◌, ◌≤◌, length, take, [], slice_index_or, Option};
+ghost use Rattle.std.specs.Option.{option_map};
+ghost use Rattle.std.specs.List.{list_any};
+ghost use Rattle.std.specs.Str.{bytes_eq};
+ghost use Rattle.trap_model.specs.Trap.{Lists, lists, names_of, junction_named};
+ghost use Rattle.trap_model.specs.Joins.{zone_named, segment_named, port_named};
+ghost use Rattle.trap_model.specs.Build.{first_double};
+
+use crate::parts::{EndName, TrapParts};
+use crate::port::Port;
+use qc_base::Name;
+
+impl TrapParts {
+    // The zone of that name.
+    pub(crate) fn zone_named(&self, name: &[u8]) -> Option<usize>
+        ensures { result ≡ zone_named (lists self.now) name.now }
+    {
+        for (k, zone) in self.zones.iter().enumerate() {
+            if zone.name.bytes() == name {
+                return Some(k);
+            }
+        }
+        None
+    }
+
+    // The segment of that name.
+    pub(crate) fn segment_named(&self, name: &[u8]) -> Option<usize>
+        ensures { result ≡ segment_named (lists self.now) name.now }
+    {
+        for (k, segment) in self.segments.iter().enumerate() {
+            if segment.name.bytes() == name {
+                return Some(k);
+            }
+        }
+        None
+    }
+
+    // The junction of that name.
+    pub(crate) fn junction_named(&self, name: &[u8]) -> Option<usize>
+        ensures { result ≡ junction_named (lists self.now) name.now }
+    {
+        for (k, junction) in self.junctions.iter().enumerate() {
+            if junction.bytes() == name {
+                return Some(k);
+            }
+        }
+        None
+    }
+
+    // What the name of an end stands for.
+    pub(crate) fn port(&self, name: &EndName) -> Option<Port>
+        ensures { result ≡ port_named (lists self.now) name.now.name name.now.end }
+    {
+        let bytes = name.name.bytes();
+        let Some(end) = name.end else {
+            return self.junction_named(bytes).map(Port::Junction);
+        };
+        match self.zone_named(bytes) {
+            Some(zone) => Some(Port::Zone(zone, end)),
+            None => match self.segment_named(bytes) {
+                Some(segment) => Some(Port::Segment(segment, end)),
+                None => None,
+            },
+        }
+    }
+
+    // How many names there are.
+    fn name_count(&self) -> usize
+        requires { length (names_of (lists self.now)) ≤ 320 }
+        ensures { result ≡ length (names_of (lists self.now)) }
+    {
+        self.zones.len() + self.segments.len() + self.junctions.len()
+    }
+
+    // A name, of the zones first, then of the segments, then of the junctions.
+    fn name_at(&self, k: usize) -> &Name
+        requires { k < length (names_of (lists self.now)) }
+        ensures { result.now ≡ slice_index_or (names_of (lists self.now)) k result.now }
+    {
+        let zones = self.zones.len();
+        if k < zones {
+            return &self.zones[k].name;
+        }
+        let k = k - zones;
+        let segments = self.segments.len();
+        if k < segments {
+            return &self.segments[k].name;
+        }
+        &self.junctions[k - segments]
+    }
+
+    // Whether the name is among the first so many.
+    fn stands_among(&self, count: usize, name: &Name) -> bool
+        requires { count ≤ length (names_of (lists self.now)) }
+        ensures { result ≡ list_any (bytes_eq name.now) (take count (names_of (lists self.now))) }
+    {
+        for k in 0..count {
+            if name == self.name_at(k) {
+                return true;
+            }
+        }
+        false
+    }
+
+    // The first name that stands before. There are a few hundred names at most.
+    pub(crate) fn first_double(&self) -> Option<&Name>
+        requires { length (names_of (lists self.now)) ≤ 320 }
+        ensures { option_map (λ name. name.now) result ≡ first_double [] (names_of (lists self.now)) }
+    {
+        for k in 0..self.name_count() {
+            let name = self.name_at(k);
+            if self.stands_among(k, name) {
+                return Some(name);
+            }
+        }
+        None
+    }
+}
