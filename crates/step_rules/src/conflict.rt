@@ -31,18 +31,32 @@ fn docked(trap: &Trap, zone: PlaceId, end: End) -> Option<PlaceId>
 pub fn footprint(trap: &Trap, action: &Action) -> Footprint
     ensures { spots result ≡ works_on trap.now action.now }
 {
-    let (first, second, junction) = match *action {
-        Action::Split { zone, end, .. } | Action::Merge { zone, end } => {
-            (zone, docked(trap, zone, end), None)
-        }
-        Action::Move { from, to } => (from, Some(to), None),
-        Action::Cross { junction, from, to } => (from, Some(to), Some(junction)),
-        Action::Swap { zone, .. } | Action::Op { zone, .. } => (zone, None, None),
-    };
-    Footprint {
-        first,
-        second,
-        junction,
+    match *action {
+        Action::Split { zone, end, .. } => Footprint {
+            first: zone,
+            second: docked(trap, zone, end),
+            junction: None,
+        },
+        Action::Merge { zone, end } => Footprint {
+            first: zone,
+            second: docked(trap, zone, end),
+            junction: None,
+        },
+        Action::Move { from, to } => Footprint {
+            first: from,
+            second: Some(to),
+            junction: None,
+        },
+        Action::Cross { junction, from, to } => Footprint {
+            first: from,
+            second: Some(to),
+            junction: Some(junction),
+        },
+        Action::Swap { zone, .. } | Action::Op { zone, .. } => Footprint {
+            first: zone,
+            second: None,
+            junction: None,
+        },
     }
 }
 
