@@ -65,8 +65,8 @@ small_numbers : (trap : Lists) (ls : List Link) → length trap.segments ≤ 256
 small_numbers trap [] few known q e = absurd (both_ways false refl e)
 small_numbers trap (link ∷ ls) few known q e =
     elim (or_cases (eqb q (number_of link)) (list_any (eqb q) (map number_of ls)) e) [
-      inl here ↦ let same = eqb-true q (number_of link) here in omega (arith, same, small_number trap link few known.0)
-    | inr later ↦ small_numbers trap ls few known.1 q later
+      | inl here ↦ let same = eqb-true q (number_of link) here in omega (arith, same, small_number trap link few known.0)
+      | inr later ↦ small_numbers trap ls few known.1 q later
     ]
 
 length-map-numbers : (ls : List Link) → length (map number_of ls) ≡ length ls

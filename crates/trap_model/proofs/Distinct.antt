@@ -29,9 +29,9 @@ pub names_distinct : (before names : List (List ℕ)) → AllPairs (λ a b. a �
 names_distinct before [] all e = rw (append-nil before) all
 names_distinct before (name ∷ names) all e =
     elim (cases_Bool (list_any (bytes_eq name) before)) [
-      inl stands ↦ absurd (none-some name (sym (sym (cond-true (list_any (bytes_eq name) before) (Some name) (first_double (before ++ name ∷ []) names) stands) ∙ e)))
-    | inr none ↦
-        let rest : first_double (before ++ name ∷ []) names ≡ None = sym (cond-false (list_any (bytes_eq name) before) (Some name) (first_double (before ++ name ∷ []) names) none) ∙ e in
-        let all_more : AllPairs (λ a b. a ≢ b) (before ++ name ∷ []) = distinct_more bytes_eq bytes_eq-Decides before name all none in
-        rw (append_assoc before (name ∷ []) names) at (names_distinct (before ++ name ∷ []) names all_more rest)
+      | inl stands ↦ absurd (none-some name (sym (sym (cond-true (list_any (bytes_eq name) before) (Some name) (first_double (before ++ name ∷ []) names) stands) ∙ e)))
+      | inr none ↦
+          let rest : first_double (before ++ name ∷ []) names ≡ None = sym (cond-false (list_any (bytes_eq name) before) (Some name) (first_double (before ++ name ∷ []) names) none) ∙ e in
+          let all_more : AllPairs (λ a b. a ≢ b) (before ++ name ∷ []) = distinct_more bytes_eq bytes_eq-Decides before name all none in
+          rw (append_assoc before (name ∷ []) names) at (names_distinct (before ++ name ∷ []) names all_more rest)
     ]

@@ -46,4 +46,4 @@ cross_near junction from to channels passage p =
     let start : 0 + passage.first ≡ passage.first = omega arith in
     let rest : list_any (is_through junction) (drop (passage.«end» - passage.first) (drop passage.first channels)) ≡ false = rw (drop-drop, number) p.after in
     sym (position_after (is_cross junction from to) (is_through junction) h passage.first 0 channels p.before
-        ∙ rw start (position_before (is_cross junction from to) (is_through junction) h (passage.«end» - passage.first) passage.first (drop passage.first channels) rest))
+    ∙ rw start (position_before (is_cross junction from to) (is_through junction) h (passage.«end» - passage.first) passage.first (drop passage.first channels) rest))

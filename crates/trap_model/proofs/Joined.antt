@@ -19,7 +19,7 @@ use Rattle.trap_model.specs.declared.port.Link.TheVariants as links
 use Rattle.trap_model.specs.Trap.{Lists}
 use Rattle.trap_model.specs.Joins.{same_end, port_named, link_of, link_at, links_of, ends_of}
 use Rattle.trap_model.specs.Build.{◌>>◌, ◌>>=◌, unless, same_port, is_taken, join_of, joins_from}
-use Rattle.trap_model.proofs.Tests.{err_ok, unless_passes}
+use Rattle.trap_model.proofs.Passed.{err_ok, unless_passes}
 use Rattle.trap_model.proofs.Distinct.{distinct_more}
 
 -- a join that passes: it joins what it says, and its ends are free

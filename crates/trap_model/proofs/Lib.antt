@@ -5,7 +5,7 @@ pub mod Rows
 pub mod Finding
 pub mod Passages
 pub mod Distinct
-pub mod Tests
+pub mod Passed
 pub mod Joined
 pub mod Sound
 pub mod Slots

@@ -27,8 +27,8 @@ no_find : {X : Type 0} (p : X → Bool) (i : ℕ) (xs : List X) → find p xs �
 no_find p i [] e = refl
 no_find p i (x ∷ xs) e =
     elim (cases_Bool (p x)) [
-      inl here ↦ absurd (none-some x (sym e ∙ cond-true (p x) (Some x) (find p xs) here))
-    | inr not ↦ cond-false (p x) (Some i) (position_from p (i + 1) xs) not ∙ no_find p (i + 1) xs (sym (cond-false (p x) (Some x) (find p xs) not) ∙ e)
+      | inl here ↦ absurd (none-some x (sym e ∙ cond-true (p x) (Some x) (find p xs) here))
+      | inr not ↦ cond-false (p x) (Some i) (position_from p (i + 1) xs) not ∙ no_find p (i + 1) xs (sym (cond-false (p x) (Some x) (find p xs) not) ∙ e)
     ]
 
 -- no channel, no number

@@ -12,7 +12,7 @@ use Rattle.trap_model.specs.declared.fault.TrapFault.TheVariants.{NoZone, TooMan
 use Rattle.trap_model.specs.Trap.{Lists, names_of, slot_count}
 use Rattle.trap_model.specs.Joins.{links_of, link_at, ends_of, arms_of, arm_at, slot_end, segment_at, segment_end}
 use Rattle.trap_model.specs.Build.{◌>>◌, ◌>>=◌, unless, none_of, few, first_double, hold_ions, are_measured, are_armed, are_arms, all_differ, is_between, segments_at, parts_pass, joins_from, AreNames, IsTrap, HasArms}
-use Rattle.trap_model.proofs.Tests.{then_parts, unless_passes, none_passes, between, capacities_of, lengths_of, loads_of, armed_at}
+use Rattle.trap_model.proofs.Passed.{then_parts, unless_passes, none_passes, between, capacities_of, lengths_of, loads_of, armed_at}
 use Rattle.trap_model.proofs.Distinct.{names_distinct, all_pairs_none, differs}
 use Rattle.trap_model.proofs.Joined.{links_are, joins_known, joins_once}
 

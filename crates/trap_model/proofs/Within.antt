@@ -72,8 +72,8 @@ arms_below trap junction [] t known = tt
 arms_below trap junction (links.Dock zone e s f ∷ ls) t known = arms_below trap junction ls t known.1
 arms_below trap junction (links.Arm s e other ∷ ls) t known =
     cons_below (place_count trap) (arm_at trap junction (links.Arm s e other)) (filter_map (arm_at trap junction) ls)
-      (cond_both (eqb junction other) (Some s) None (λ o. IfSome (option_map (λ segment. slot_end trap segment e) o) (λ a. a.slot < place_count trap)) (λ _. slot_below trap s e t known.0.0) (λ _. tt))
-      (arms_below trap junction ls t known.1)
+    (cond_both (eqb junction other) (Some s) None (λ o. IfSome (option_map (λ segment. slot_end trap segment e) o) (λ a. a.slot < place_count trap)) (λ _. slot_below trap s e t known.0.0) (λ _. tt))
+    (arms_below trap junction ls t known.1)
 
 cross_below : (n junction : ℕ) (from to : SlotEnd) → from.slot < n → to.slot < n → AllBelow n (cross_channels junction from to)
 cross_below n junction from to p q = cond_both (eqb from.slot to.slot) [] (cross junction from to ∷ []) (AllBelow n) (λ _. tt) (λ _. ((p, q), tt))

@@ -17,4 +17,4 @@ returns-in-Some c =
 pub returns-in-None : goal.returns-in-None
 returns-in-None c =
     rw (← c.self.view_is)
-      (slot_answer (lists c.self.inside.parts) c.args.text.now c.slot_named.result c.self.invariant.sound (sym c.zone_named.ensures ∙ c.in-None.is) (rw (← c.self.view_is) at c.slot_named.ensures))
+    (slot_answer (lists c.self.inside.parts) c.args.text.now c.slot_named.result c.self.invariant.sound (sym c.zone_named.ensures ∙ c.in-None.is) (rw (← c.self.view_is) at c.slot_named.ensures))

@@ -26,7 +26,7 @@ pub returns-in_default-slot_written : goal.returns-in_default-slot_written
 returns-in_default-slot_written c =
     let dot = c.in-Some.ensures in
     rw (← c.self.view_is) (no_slot_without_number (lists c.self.inside.parts) c.args.text.now c.in-Some.dot c.in-Some-segment_named.segment c.index.result.now c.self.invariant.sound dot.0 dot.1 dot.2 (sym c.segment_named.ensures ∙ c.in-Some-segment_named.is) c.index.ensures
-      (rw take_rest at c.in_default-slot_written.ensures))
+    (rw take_rest at c.in_default-slot_written.ensures))
 
 pub index-requires-2 : goal.index-requires-2
 index-requires-2 c =
@@ -54,4 +54,4 @@ returns c =
     let inside = position_at (λ (segment : SegmentPart). bytes_eq segment.name _) c.self.inside.parts.segments.items c.in-Some-segment_named.segment found in
     let first = first_read trap c.self.inside.firsts.items c.in-Some-segment_named.segment c.index-2.result.now c.self.invariant.of_segments inside c.index-2.ensures in
     rw (← c.self.view_is, first)
-      (slot_found trap c.args.text.now c.in-Some.dot c.in-Some-segment_named.segment c.in-Some-slot_written.index c.index.result.now c.self.invariant.sound dot.0 dot.1 found c.index.ensures number.0 (rw take_rest at number.1))
+    (slot_found trap c.args.text.now c.in-Some.dot c.in-Some-segment_named.segment c.in-Some-slot_written.index c.index.result.now c.self.invariant.sound dot.0 dot.1 found c.index.ensures number.0 (rw take_rest at number.1))

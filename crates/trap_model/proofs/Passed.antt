@@ -35,8 +35,8 @@ between low high n e =
 find_passes : {X : Type 0} (p : X → Bool) (x : X) (xs : List X) → find p (x ∷ xs) ≡ None → (p x ≡ false) × (find p xs ≡ None)
 find_passes p x xs e =
     elim (cases_Bool (p x)) [
-      inl stands ↦ absurd (none-some x (sym (sym (cond-true (p x) (Some x) (find p xs) stands) ∙ e)))
-    | inr none ↦ (none, sym (cond-false (p x) (Some x) (find p xs) none) ∙ e)
+      | inl stands ↦ absurd (none-some x (sym (sym (cond-true (p x) (Some x) (find p xs) stands) ∙ e)))
+      | inr none ↦ (none, sym (cond-false (p x) (Some x) (find p xs) none) ∙ e)
     ]
 
 pub find_none : {X : Type 0} (p : X → Bool) (xs : List X) → find p xs ≡ None → (k : ℕ) (d : X) → k < length xs → p (get_or xs k d) ≡ false
