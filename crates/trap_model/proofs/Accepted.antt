@@ -3,7 +3,7 @@ use Rattle.std.proofs.Common.{◌≡◌, ◌≢◌, ℕ, ◌+◌, ◌<◌, ◌�
 use Rattle.std.specs.Bool.{Decides}
 use Rattle.std.specs.List.{All, AllPairs, list_any, filter_map, cons_option, flat_map}
 use Rattle.std.specs.Option.{ok_or, option_map, option_and_then, IsSome}
-use Rattle.std.proofs.lemmas.Bool.{le-leb, lt-ltb, and_from, false_from_ne_true, not_from_false, both_ways}
+use Rattle.std.proofs.lemmas.Bool.{le-leb, lt-ltb, and_from, false_from_ne_true, not_from_false, both_ways, ne_eqb}
 use Rattle.std.proofs.lemmas.Bool.Decides.{Decides-eqb}
 use Rattle.std.proofs.lemmas.List.{append-nil, get_or_append_left, get_or-append-add, get_or_default}
 use Rattle.std.proofs.lemmas.List.Concat.{flat_map-append}
@@ -65,3 +65,90 @@ measured (segment ∷ segments) lengths loads =
     let l = lengths 0 segment (omega arith) in
     let m = loads 0 segment (omega arith) in
     rw (between_from 1 16 segment.slots l.0 l.1, between_from 1 16 segment.load m.0 m.1) (measured segments (λ k d h. lengths (suc k) d (omega arith)) (λ k d h. loads (suc k) d (omega arith)))
+
+second_port : (trap : Lists) (first : Port) (second : Option Port) (link : Link) → option_and_then (link_of first) second ≡ Some link → (s : Port) × (second ≡ Some s) × (link_of first s ≡ Some link)
+second_port trap first None link e = absurd (none-some link e)
+second_port trap first (Some s) link e = (s, refl, e)
+
+both_ports : (trap : Lists) (first second : Option Port) (link : Link) → option_and_then (λ f. option_and_then (link_of f) second) first ≡ Some link
+    → (f : Port) × (s : Port) × (first ≡ Some f) × (second ≡ Some s) × (link_of f s ≡ Some link)
+both_ports trap None second link e = absurd (none-some link e)
+both_ports trap (Some f) second link e = let p = second_port trap f second link e in (f, p.0, refl, p.1, p.2)
+
+-- a join that is known and free passes
+join_with : (trap : Lists) (row : ℕ) (before : List Link) (join : JoinPart) (link : Link) (first second : Port) → port_named trap join.first.name join.first.«end» ≡ Some first → port_named trap join.second.name join.second.«end» ≡ Some second
+    → link_of first second ≡ Some link → is_taken before link ≡ false → join_of trap row before join ≡ Ok link
+unfolding join_of
+join_with trap row before join link first second one two linked free = rw (one, two, linked, free) refl
+
+join_accepted : (trap : Lists) (row : ℕ) (before : List Link) (join : JoinPart) (link : Link) → link_at trap join ≡ Some link → is_taken before link ≡ false → join_of trap row before join ≡ Ok link
+join_accepted trap row before join link e free =
+    let p = both_ports trap (port_named trap join.first.name join.first.«end») (port_named trap join.second.name join.second.«end») link e in
+    join_with trap row before join link p.0 p.1 p.2 p.3 p.4 free
+
+-- an end of a link that comes later is free
+end_free : (before : List Link) (link : Link) (rest : List Link) (k : ℕ) (p : Port) → AllPairs (λ a b. a ≢ b) (flat_map ends_of (before ++ link ∷ rest)) → k < length (ends_of link) → get_or (ends_of link) k p ≡ p
+    → list_any (same_port p) (flat_map ends_of before) ≡ false
+end_free before link rest k p all h at =
+    let cut = flat_map-append ends_of before (link ∷ rest) in
+    let back = flat_map ends_of (link ∷ rest) in
+    apart_from same_port same_port_decides (flat_map ends_of before) back k p (rw cut at all) (omega (arith, length-append (ends_of link) (flat_map ends_of rest), h)) (get_or_append_left (ends_of link) (flat_map ends_of rest) p k h ∙ at)
+
+is_free : (before : List Link) (link : Link) (rest : List Link) → AllPairs (λ a b. a ≢ b) (flat_map ends_of (before ++ link ∷ rest)) → is_taken before link ≡ false
+is_free before (links.Dock zone e s f) rest all =
+    rw (end_free before (links.Dock zone e s f) rest 0 (ports.Zone zone e) all (omega arith) refl, end_free before (links.Dock zone e s f) rest 1 (ports.Segment s f) all (omega arith) refl) refl
+is_free before (links.Arm s e junction) rest all = rw (end_free before (links.Arm s e junction) rest 0 (ports.Segment s e) all (omega arith) refl) refl
+
+known_link : (o : Option Link) → IsSome o → (link : Link) × (o ≡ Some link)
+known_link (Some link) s = (link, refl)
+known_link None s = absurd (both_ways false refl s)
+
+joins_step : (trap : Lists) (row : ℕ) (before : List Link) (join : JoinPart) (joins : List JoinPart) (link : Link) (answer : List Link) → join_of trap row before join ≡ Ok link
+    → joins_from trap (row + 1) (before ++ link ∷ []) joins ≡ Ok answer → joins_from trap row before (join ∷ joins) ≡ Ok answer
+unfolding joins_from
+joins_step trap row before join joins link answer one rest = rw one rest
+
+joins_none : (trap : Lists) (row : ℕ) (before : List Link) → joins_from trap row before [] ≡ Ok before
+unfolding joins_from
+joins_none trap row before = refl
+
+joins_accepted : (trap : Lists) (row : ℕ) (before : List Link) (joins : List JoinPart) → All (λ join. IsSome (link_at trap join)) joins → AllPairs (λ a b. a ≢ b) (flat_map ends_of (before ++ filter_map (link_at trap) joins))
+    → joins_from trap row before joins ≡ Ok (before ++ filter_map (link_at trap) joins)
+joins_accepted trap row before [] known once = rw append-nil (joins_none trap row before)
+joins_accepted trap row before (join ∷ joins) known once =
+    let k = known_link (link_at trap join) (known 0 join (omega arith)) in
+    let link = k.0 in
+    let rest = filter_map (link_at trap) joins in
+    let all : AllPairs (λ a b. a ≢ b) (flat_map ends_of (before ++ link ∷ rest)) = rw k.1 at once in
+    let more : AllPairs (λ a b. a ≢ b) (flat_map ends_of ((before ++ link ∷ []) ++ rest)) = rw append_assoc all in
+    let one = join_accepted trap row before join link k.1 (is_free before link rest all) in
+    let tail = joins_accepted trap (row + 1) (before ++ link ∷ []) joins (λ i d h. known (suc i) d (omega arith)) more in
+    rw k.1 (joins_step trap row before join joins link (before ++ link ∷ rest) one (rw append_assoc at tail))
+
+differ_from : (xs : List ℕ) → AllPairs (λ a b. a ≢ b) xs → all_differ xs ≡ true
+differ_from [] all = refl
+differ_from (x ∷ xs) all =
+    let none : list_any (λ y. eqb y x) xs ≡ false = list_any_none (λ y. eqb y x) xs (λ k d h. ne_eqb (get_or xs k d) x (λ same. all 0 (suc k) d (omega arith) (omega arith) (sym same))) in
+    rw none (differ_from xs (λ i j d below h. all (suc i) (suc j) d (omega arith) (omega arith)))
+
+arms_accepted : (trap : Lists) (junction : ℕ) → HasArms trap junction → are_arms (segments_at junction (links_of trap)) ≡ true
+arms_accepted trap junction a =
+    let segments = segments_at junction (links_of trap) in
+    let len = length-arms trap junction (links_of trap) in
+    and_from (is_between 2 4 (length segments)) (all_differ segments) (between_from 2 4 (length segments) (omega (arith, a.some, len)) (omega (arith, a.few, len))) (differ_from segments a.apart)
+
+armed : (trap : Lists) (first : ℕ) (names : List (List ℕ)) → ((junction : ℕ) → junction < first + length names → HasArms trap junction) → are_armed (links_of trap) first names ≡ Ok tt
+armed trap first [] has = refl
+armed trap first (name ∷ names) has = rw (arms_accepted trap first (has first (omega arith))) (armed trap (first + 1) names (λ junction h. has junction (omega arith)))
+
+tests_accepted : (trap : Lists) → IsTrap trap → parts_pass trap ≡ Ok tt
+unfolding parts_pass
+tests_accepted trap t =
+    rw (lt-ltb 0 (length trap.zones) (omega (arith, t.some)), le-leb (length trap.zones) 32 t.zones, le-leb (length trap.segments) 256 t.segments, le-leb (length trap.junctions) 32 t.junctions, no_double [] (names_of trap) t.names,
+      holds trap.zones t.capacities, measured trap.segments t.lengths t.loads, le-leb (slot_count trap.segments) 256 t.slots) refl
+
+-- Parts that keep what each trap keeps are a trap.
+pub accepted : (trap : Lists) → IsTrap trap → build_of trap ≡ Ok trap
+unfolding build_of
+accepted trap t =
+    rw (tests_accepted trap t, joins_accepted trap 1 [] trap.joins t.joins t.once, armed trap 0 trap.junctions (λ junction h. t.arms junction (omega arith))) refl
