@@ -1,10 +1,9 @@
 -- Parts that keep what each trap keeps pass all tests.
-use Rattle.std.proofs.Common.{◌≡◌, ◌≢◌, ℕ, ◌+◌, ◌<◌, ◌≤◌, Bool, true, false, not, ◌&&◌, ◌||◌, List, [], ◌∷◌, ◌++◌, length, get_or, find, Option, None, Some, Result, Ok, Err, zero, suc, refl, sym, ap, ◌∙◌, arith, eqb, leb, ltb, append_assoc, length-append}
+use Rattle.std.proofs.Common.{◌≡◌, ◌≢◌, ℕ, ◌+◌, ◌<◌, ◌≤◌, Bool, true, false, not, List, [], ◌∷◌, ◌++◌, length, get_or, find, Option, None, Some, Ok, suc, refl, sym, ◌∙◌, arith, eqb, leb, append_assoc, length-append}
 use Rattle.std.specs.Bool.{Decides}
-use Rattle.std.specs.List.{All, AllPairs, list_any, filter_map, cons_option, flat_map}
-use Rattle.std.specs.Option.{ok_or, option_map, option_and_then, IsSome}
-use Rattle.std.proofs.lemmas.Bool.{le-leb, lt-ltb, and_from, false_from_ne_true, not_from_false, both_ways, ne_eqb}
-use Rattle.std.proofs.lemmas.Bool.Decides.{Decides-eqb}
+use Rattle.std.specs.List.{All, AllPairs, list_any, filter_map, flat_map}
+use Rattle.std.specs.Option.{option_and_then, IsSome}
+use Rattle.std.proofs.lemmas.Bool.{le-leb, lt-ltb, and_from, false_from_ne_true, both_ways, ne_eqb}
 use Rattle.std.proofs.lemmas.List.{append-nil, get_or_append_left, get_or-append-add, get_or_default}
 use Rattle.std.proofs.lemmas.List.Concat.{flat_map-append}
 use Rattle.std.proofs.lemmas.List.Folds.{list_any_none}
@@ -19,11 +18,9 @@ use Rattle.trap_model.specs.declared.port.Port.TheVariants as ports
 use Rattle.trap_model.specs.declared.port.Link.{Link}
 use Rattle.trap_model.specs.declared.port.Link.TheVariants as links
 use Rattle.trap_model.specs.declared.fault.Counted.{Counted}
-use Rattle.trap_model.specs.declared.fault.TrapFault.{TrapFault}
-use Rattle.trap_model.specs.declared.fault.TrapFault.TheVariants.{NoZone, TooMany, Double, Capacity, Length, Load, Unknown, Pair, EndTaken, Arms}
 use Rattle.trap_model.specs.Trap.{Lists, names_of, slot_count}
-use Rattle.trap_model.specs.Joins.{port_named, link_of, link_at, links_of, ends_of, arms_of}
-use Rattle.trap_model.specs.Build.{◌>>◌, ◌>>=◌, unless, none_of, few, first_double, is_between, hold_ions, are_measured, same_port, is_taken, join_of, joins_from, segments_at, all_differ, are_arms, are_armed, parts_pass, build_of, IsTrap, HasArms}
+use Rattle.trap_model.specs.Joins.{port_named, link_of, link_at, links_of, ends_of}
+use Rattle.trap_model.specs.Build.{few, first_double, is_between, hold_ions, are_measured, same_port, is_taken, join_of, joins_from, segments_at, all_differ, are_arms, are_armed, parts_pass, build_of, IsTrap, HasArms}
 use Rattle.trap_model.proofs.Joined.{same_port_decides}
 use Rattle.trap_model.proofs.Sound.{length-arms}
 
@@ -40,9 +37,9 @@ default_at xs k d y h at = get_or_default xs k d y h ∙ at
 apart_from : {X : Type 0} (same : X → X → Bool) (decides : (x y : X) → Decides (same x y) (x ≡ y)) (front back : List X) (k : ℕ) (y : X) → AllPairs (λ a b. a ≢ b) (front ++ back) → k < length back → get_or back k y ≡ y → list_any (same y) front ≡ false
 apart_from same decides front back k y all h at =
     list_any_none (same y) front (λ i d below. false_from_ne_true (same y (get_or front i d)) (λ e.
-      let is : y ≡ get_or front i d = (decides y (get_or front i d)).0 e in
-      all i (length front + k) d (omega arith) (omega (arith, length-append front back))
-        (get_or_append_left front back d i below ∙ sym is ∙ sym (get_or-append-add front back k d ∙ default_at back k d y h at))))
+    let is : y ≡ get_or front i d = (decides y (get_or front i d)).0 e in
+    all i (length front + k) d (omega arith) (omega (arith, length-append front back))
+    (get_or_append_left front back d i below ∙ sym is ∙ sym (get_or-append-add front back k d ∙ default_at back k d y h at))))
 
 -- distinct names have no double
 no_double : (before names : List (List ℕ)) → AllPairs (λ a b. a ≢ b) (before ++ names) → first_double before names ≡ None
@@ -144,8 +141,16 @@ armed trap first (name ∷ names) has = rw (arms_accepted trap first (has first 
 tests_accepted : (trap : Lists) → IsTrap trap → parts_pass trap ≡ Ok tt
 unfolding parts_pass
 tests_accepted trap t =
-    rw (lt-ltb 0 (length trap.zones) (omega (arith, t.some)), le-leb (length trap.zones) 32 t.zones, le-leb (length trap.segments) 256 t.segments, le-leb (length trap.junctions) 32 t.junctions, no_double [] (names_of trap) t.names,
-      holds trap.zones t.capacities, measured trap.segments t.lengths t.loads, le-leb (slot_count trap.segments) 256 t.slots) refl
+    rw (
+      lt-ltb 0 (length trap.zones) (omega (arith, t.some)),
+      le-leb (length trap.zones) 32 t.zones,
+      le-leb (length trap.segments) 256 t.segments,
+      le-leb (length trap.junctions) 32 t.junctions,
+      no_double [] (names_of trap) t.names,
+      holds trap.zones t.capacities,
+      measured trap.segments t.lengths t.loads,
+      le-leb (slot_count trap.segments) 256 t.slots,
+    ) refl
 
 -- Parts that keep what each trap keeps are a trap.
 pub accepted : (trap : Lists) → IsTrap trap → build_of trap ≡ Ok trap

@@ -1,6 +1,6 @@
 -- Parts that pass all tests keep what each trap keeps.
-use Rattle.std.proofs.Common.{◌≡◌, ◌≢◌, ℕ, ◌+◌, ◌<◌, ◌≤◌, Bool, true, false, not, List, [], ◌∷◌, ◌++◌, length, get_or, Option, None, Some, Result, Ok, Err, zero, suc, refl, sym, ap, ◌∙◌, arith, eqb, leb, ltb}
-use Rattle.std.specs.List.{AllPairs, list_any, filter_map, cons_option, flat_map}
+use Rattle.std.proofs.Common.{◌≡◌, ◌≢◌, ℕ, ◌+◌, ◌<◌, ◌≤◌, true, not, List, [], ◌∷◌, length, get_or, Option, None, Some, Result, Ok, Err, zero, suc, refl, sym, ap, arith, eqb, leb, ltb}
+use Rattle.std.specs.List.{list_any, filter_map, cons_option}
 use Rattle.std.specs.Option.{option_map}
 use Rattle.std.proofs.lemmas.Bool.{and_parts, not-true, leb-true, ltb-true}
 use Rattle.std.proofs.lemmas.Bool.Decides.{Decides-eqb}
@@ -11,8 +11,8 @@ use Rattle.trap_model.specs.declared.fault.Counted.TheVariants.{Zones, Segments,
 use Rattle.trap_model.specs.declared.fault.TrapFault.{TrapFault}
 use Rattle.trap_model.specs.declared.fault.TrapFault.TheVariants.{NoZone, TooMany, Double}
 use Rattle.trap_model.specs.Trap.{Lists, names_of, slot_count}
-use Rattle.trap_model.specs.Joins.{links_of, link_at, ends_of, arms_of, arm_at, slot_end, segment_at, segment_end}
-use Rattle.trap_model.specs.Build.{◌>>◌, ◌>>=◌, unless, none_of, few, first_double, hold_ions, are_measured, are_armed, are_arms, all_differ, is_between, segments_at, parts_pass, joins_from, build_of, AreNames, IsTrap, HasArms}
+use Rattle.trap_model.specs.Joins.{links_of, arm_at, slot_end, segment_at, segment_end}
+use Rattle.trap_model.specs.Build.{◌>>=◌, unless, none_of, few, first_double, hold_ions, are_measured, are_armed, are_arms, all_differ, is_between, segments_at, parts_pass, joins_from, build_of, AreNames, IsTrap, HasArms}
 use Rattle.trap_model.proofs.Passed.{err_ok, then_parts, unless_passes, none_passes, between, capacities_of, lengths_of, loads_of, armed_at}
 use Rattle.trap_model.proofs.Distinct.{names_distinct, all_pairs_none, differs}
 use Rattle.trap_model.proofs.Joined.{links_are, joins_known, joins_once}
