@@ -21,12 +21,13 @@ same_itself (on_bit p) = eq-eqb p p refl
 
 -- what the test of two operations says of their numbers
 pub share_iff : (circuit : Parts) (i j : ℕ) (first second : Op) (answer : Bool) → Some first ≡ slice_get circuit.ops i → Some second ≡ slice_get circuit.ops j → answer ≡ share_wire first second → IsTrue answer ↔ Share circuit i j
-share_iff circuit i j first second answer at_i at_j says =
-    (λ yes. let both = met same_wire same_is (wires first) (wires second) (sym says ∙ yes) in
+share_iff circuit i j first second answer at_i at_j says = (
+  λ yes. let both = met same_wire same_is (wires first) (wires second) (sym says ∙ yes) in
       record { first = first; second = second; wire = both.0; at_i = sym at_i; at_j = sym at_j; in_first = both.1; in_second = both.2 },
-     λ s. let one : s.first ≡ first = same_Some s.first first (sym s.at_i ∙ sym at_i) in
+  λ s. let one : s.first ≡ first = same_Some s.first first (sym s.at_i ∙ sym at_i) in
       let two : s.second ≡ second = same_Some s.second second (sym s.at_j ∙ sym at_j) in
-      says ∙ sym (ap (λ op. share_wire op second) one) ∙ sym (ap (share_wire s.first) two) ∙ meets same_wire same_itself (wires s.first) (wires s.second) s.wire s.in_first s.in_second)
+      says ∙ sym (ap (λ op. share_wire op second) one) ∙ sym (ap (share_wire s.first) two) ∙ meets same_wire same_itself (wires s.first) (wires s.second) s.wire s.in_first s.in_second,
+)
 
 no_barrier : (op : Op) → is_barrier op ≡ true → ⊥
 no_barrier (Cx control target cond) h = cc

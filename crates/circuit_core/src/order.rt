@@ -14,7 +14,9 @@ fn operands(op: &Op) -> (Qubit, Qubit)
 {
     match op {
         Op::Cx {
-            control, target, ..
+            control,
+            target,
+            ..
         } => (*control, *target),
     }
 }

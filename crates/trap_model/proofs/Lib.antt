@@ -17,3 +17,4 @@ pub mod Crosses
 pub mod Within
 pub mod ReadTables
 pub mod PlaceTexts
+pub mod Accepted

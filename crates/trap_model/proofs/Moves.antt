@@ -1,8 +1,8 @@
 -- The moves are those between neighbouring slots of one segment.
-use Rattle.std.proofs.Common.{◌≡◌, ℕ, ◌+◌, ◌-◌, ◌<◌, ◌≤◌, Bool, true, false, cond, ◌&&◌, List, [], ◌∷◌, ◌++◌, length, find, Option, None, Some, zero, suc, refl, sym, ap, ◌∙◌, arith, slice_get, slice_index, eqb, ltb, inl, inr, ◌⊎◌}
+use Rattle.std.proofs.Common.{◌≡◌, ℕ, ◌+◌, ◌-◌, ◌<◌, ◌≤◌, Bool, true, false, cond, ◌&&◌, List, [], ◌∷◌, length, find, Option, None, Some, zero, suc, refl, sym, ap, ◌∙◌, arith, slice_get, slice_index, eqb, ltb, inl, inr, ◌⊎◌}
 use Rattle.std.specs.List.{flat_map, range_with_len}
 use Rattle.std.specs.Option.{option_or}
-use Rattle.std.proofs.lemmas.Bool.{cases_lt, cases_eq, cases_Bool, eq-eqb, ne_eqb, eqb-true, eqb-false, cond-true, cond-false, lt-ltb, and_parts, cond_both, and_left, and_right}
+use Rattle.std.proofs.lemmas.Bool.{cases_lt, cases_eq, eq-eqb, ne_eqb, eqb-true, cond-true, cond-false, lt-ltb, and_left, and_right}
 use Rattle.std.proofs.lemmas.Option.{slice_get_past}
 use Rattle.qc_base.specs.declared.ids.End.TheVariants.{A, B}
 use Rattle.trap_model.specs.declared.parts.SegmentPart.{SegmentPart}
@@ -11,10 +11,10 @@ use Rattle.trap_model.specs.declared.channel.Channel.{Channel}
 use Rattle.trap_model.specs.declared.port.Slot.{Slot}
 use Rattle.trap_model.specs.Trap.{Lists, slot, slots_from, slot_count, slot_at, place_count}
 use Rattle.trap_model.specs.Joins.{firsts_from, first_slot, slots_of, links_of}
-use Rattle.trap_model.specs.Channels.{channel, dock_channels, move_channels, moves_from, crossings_of, channels_of, channel_at, is_move, move_of, move_channel, same_segment}
+use Rattle.trap_model.specs.Channels.{channel, move_channels, moves_from, channel_at, is_move, move_of, move_channel, same_segment}
 use Rattle.trap_model.proofs.Rows.{row_begins}
 use Rattle.trap_model.proofs.Slots.{slots_in, slot_place, slot_at_row, slot_at_behind, length-slots_from, IsSlotPlace}
-use Rattle.trap_model.proofs.Finds.{channel_found, find_parts, find-append, no_pairs, no_moves, no_docks, no_crossings, or_none}
+use Rattle.trap_model.proofs.Finds.{channel_found, find_parts, find-append, no_moves, no_docks, no_crossings, or_none}
 
 -- the test passes one channel, in the pair of one slot
 abbrev pub Picks : (Channel → Bool) → Channel → ℕ → Type 0

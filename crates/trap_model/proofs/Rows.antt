@@ -1,5 +1,5 @@
 -- The slots of a segment lie in a row among the places.
-use Rattle.std.proofs.Common.{◌≡◌, ℕ, ◌+◌, ◌-◌, ◌<◌, ◌≤◌, List, [], ◌∷◌, length, get_or, Option, None, Some, zero, suc, refl, sym, ap, ◌∙◌, arith, slice_get, slice_index, inl, inr}
+use Rattle.std.proofs.Common.{◌≡◌, ℕ, ◌+◌, ◌<◌, ◌≤◌, List, [], ◌∷◌, length, get_or, Some, zero, suc, refl, sym, ap, arith, slice_get, slice_index, inl, inr}
 use Rattle.std.proofs.lemmas.Option.{slice_get_read, slice_get_cases}
 use Rattle.std.specs.Option.{option_map_or}
 use Rattle.trap_model.specs.declared.parts.SegmentPart.{SegmentPart}

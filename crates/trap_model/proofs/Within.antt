@@ -1,5 +1,5 @@
 -- Both places of each channel are places of the trap.
-use Rattle.std.proofs.Common.{◌≡◌, ℕ, ◌+◌, ◌-◌, ◌<◌, ◌≤◌, Bool, List, [], ◌∷◌, ◌++◌, length, get_or, Option, None, Some, zero, suc, refl, arith, eqb}
+use Rattle.std.proofs.Common.{◌≡◌, ℕ, ◌+◌, ◌-◌, ◌<◌, ◌≤◌, List, [], ◌∷◌, ◌++◌, length, get_or, Option, None, Some, zero, suc, arith, eqb}
 use Rattle.std.specs.List.{flat_map, range_with_len, filter_map, cons_option}
 use Rattle.std.specs.Option.{IfSome, option_map}
 use Rattle.std.proofs.lemmas.Bool.{cond_both}
@@ -14,7 +14,7 @@ use Rattle.trap_model.specs.Trap.{Lists, slot_count, place_count}
 use Rattle.trap_model.specs.Joins.{links_of, slot_end, arms_of, arm_at}
 use Rattle.trap_model.specs.Channels.{dock_channels, move_channels, moves_from, cross_channels, cross, crossings_of, channels_of, AreWithin}
 use Rattle.trap_model.specs.Build.{IsTrap}
-use Rattle.trap_model.proofs.Known.{AreLinks, IsLink, links_known}
+use Rattle.trap_model.proofs.Known.{AreLinks, links_known}
 use Rattle.trap_model.proofs.Rows.{row_of}
 
 -- both places are below a number
