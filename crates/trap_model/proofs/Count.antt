@@ -1,22 +1,20 @@
 -- How many channels a trap has at most.
-use Rattle.std.proofs.Common.{◌≡◌, ◌≢◌, ℕ, ◌+◌, ◌-◌, ◌*◌, ◌<◌, ◌≤◌, Bool, true, false, cond, ◌&&◌, ◌||◌, List, [], ◌∷◌, ◌++◌, length, get_or, map, zero, suc, refl, sym, ap, ◌∙◌, arith, eqb, inl, inr, length-append}
-use Rattle.std.specs.List.{AllPairs, IsDistinct, AllByRecursion, list_any, flat_map, range_with_len}
-use Rattle.std.proofs.lemmas.Bool.{eqb-true, ne_eqb, and_cases, or_cases, eq-eqb, both_ways, cases_Bool, cond_both}
+use Rattle.std.proofs.Common.{◌≡◌, ℕ, ◌+◌, ◌-◌, ◌*◌, ◌<◌, ◌≤◌, true, false, ◌&&◌, List, [], ◌∷◌, ◌++◌, length, map, zero, suc, refl, ap, arith, eqb, inl, inr, length-append}
+use Rattle.std.specs.List.{IsDistinct, AllByRecursion, list_any, flat_map, range_with_len}
+use Rattle.std.proofs.lemmas.Bool.{eqb-true, ne_eqb, or_cases, eq-eqb, both_ways, cond_both}
 use Rattle.std.proofs.lemmas.Map.Made.{IsDistinct-from_AllPairs}
 use Rattle.std.proofs.lemmas.Map.Steps.{length-le_from_distinct_below}
 use Rattle.qc_base.specs.declared.ids.End.{End}
 use Rattle.qc_base.specs.declared.ids.End.TheVariants.{A, B}
 use Rattle.trap_model.specs.declared.parts.SegmentPart.{SegmentPart}
-use Rattle.trap_model.specs.declared.channel.Channel.{Channel}
-use Rattle.trap_model.specs.declared.port.Port.{Port}
 use Rattle.trap_model.specs.declared.port.Port.TheVariants as ports
 use Rattle.trap_model.specs.declared.port.Link.{Link}
 use Rattle.trap_model.specs.declared.port.Link.TheVariants as links
 use Rattle.trap_model.specs.declared.port.SlotEnd.{SlotEnd}
 use Rattle.trap_model.specs.Trap.{Lists, slot_count}
-use Rattle.trap_model.specs.Joins.{same_end, links_of, ends_of, arms_of}
+use Rattle.trap_model.specs.Joins.{links_of, ends_of, arms_of}
 use Rattle.trap_model.specs.Channels.{dock_channels, move_channels, moves_from, cross_channels, cross, crossings_of, channels_of}
-use Rattle.trap_model.specs.Build.{same_port, IsTrap, HasArms}
+use Rattle.trap_model.specs.Build.{same_port, IsTrap}
 use Rattle.trap_model.proofs.Joined.{same_port_decides}
 use Rattle.trap_model.proofs.Known.{IsLink, AreLinks, links_known}
 
@@ -65,8 +63,8 @@ small_numbers : (trap : Lists) (ls : List Link) → length trap.segments ≤ 256
 small_numbers trap [] few known q e = absurd (both_ways false refl e)
 small_numbers trap (link ∷ ls) few known q e =
     elim (or_cases (eqb q (number_of link)) (list_any (eqb q) (map number_of ls)) e) [
-      inl here ↦ let same = eqb-true q (number_of link) here in omega (arith, same, small_number trap link few known.0)
-    | inr later ↦ small_numbers trap ls few known.1 q later
+      | inl here ↦ let same = eqb-true q (number_of link) here in omega (arith, same, small_number trap link few known.0)
+      | inr later ↦ small_numbers trap ls few known.1 q later
     ]
 
 length-map-numbers : (ls : List Link) → length (map number_of ls) ≡ length ls

@@ -1,6 +1,6 @@
 -- The split and the merge of a zone's end are those of its join.
-use Rattle.std.proofs.Common.{◌≡◌, ℕ, Bool, true, false, cond, ◌&&◌, List, [], ◌∷◌, length, find, Option, None, Some, refl, sym, ap, ◌∙◌, eqb}
-use Rattle.std.specs.List.{flat_map, range_with_len}
+use Rattle.std.proofs.Common.{◌≡◌, ℕ, Bool, true, false, cond, ◌&&◌, List, [], ◌∷◌, length, find, Option, None, Some, refl, ◌∙◌, eqb}
+use Rattle.std.specs.List.{flat_map}
 use Rattle.std.specs.Option.{option_or, option_map}
 use Rattle.std.proofs.lemmas.Bool.{and_parts, eqb-true}
 use Rattle.qc_base.specs.declared.ids.End.{End}
@@ -10,8 +10,8 @@ use Rattle.trap_model.specs.declared.port.Link.{Link}
 use Rattle.trap_model.specs.declared.port.Link.TheVariants as links
 use Rattle.trap_model.specs.declared.port.SlotEnd.{SlotEnd}
 use Rattle.trap_model.specs.Trap.{Lists}
-use Rattle.trap_model.specs.Joins.{same_end, links_of, slot_end, docked, first_of, joined_slot}
-use Rattle.trap_model.specs.Channels.{split, merge, dock_channels, moves_from, crossings_of, channels_of, channel_at, is_split, is_merge, split_at, merge_at, split_channel, merge_channel}
+use Rattle.trap_model.specs.Joins.{same_end, links_of, slot_end, docked, first_of}
+use Rattle.trap_model.specs.Channels.{split, merge, dock_channels, channel_at, is_split, is_merge, split_at, merge_at, split_channel, merge_channel}
 use Rattle.trap_model.proofs.Finds.{channel_found, find_parts, no_moves, no_crossings, or_none}
 
 same_end_is : (e f : End) → same_end e f ≡ true → e ≡ f

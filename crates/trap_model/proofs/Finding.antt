@@ -1,12 +1,11 @@
 -- Where a list has the first member that passes a test.
-use Rattle.std.proofs.Common.{◌≡◌, ℕ, ◌+◌, ◌-◌, ◌<◌, ◌≤◌, Bool, true, false, cond, ◌&&◌, ◌||◌, List, [], ◌∷◌, ◌++◌, length, take, drop, find, Option, None, Some, zero, suc, refl, sym, ap, ◌∙◌, arith, slice_get}
+use Rattle.std.proofs.Common.{◌≡◌, ℕ, ◌+◌, ◌-◌, Bool, false, cond, List, [], ◌∷◌, take, drop, None, Some, zero, suc, refl, sym, ap, ◌∙◌, arith}
 use Rattle.std.proofs.lemmas.Bool.{or_parts, and_left, cond-false}
 use Rattle.std.proofs.lemmas.List.{drop-drop}
-use Rattle.std.specs.Option.{option_and_then, option_or}
-use Rattle.std.specs.List.{position_from, list_any, flat_map}
+use Rattle.std.specs.List.{position_from, list_any}
 use Rattle.trap_model.specs.declared.channel.Channel.{Channel}
 use Rattle.trap_model.specs.declared.tables.Passage.{Passage}
-use Rattle.trap_model.specs.Channels.{is_cross, is_through, is_that}
+use Rattle.trap_model.specs.Channels.{is_cross, is_through}
 use Rattle.trap_model.specs.Tables.{IsPassage}
 
 -- p passes only where q does
@@ -46,4 +45,4 @@ cross_near junction from to channels passage p =
     let start : 0 + passage.first ≡ passage.first = omega arith in
     let rest : list_any (is_through junction) (drop (passage.«end» - passage.first) (drop passage.first channels)) ≡ false = rw (drop-drop, number) p.after in
     sym (position_after (is_cross junction from to) (is_through junction) h passage.first 0 channels p.before
-        ∙ rw start (position_before (is_cross junction from to) (is_through junction) h (passage.«end» - passage.first) passage.first (drop passage.first channels) rest))
+    ∙ rw start (position_before (is_cross junction from to) (is_through junction) h (passage.«end» - passage.first) passage.first (drop passage.first channels) rest))

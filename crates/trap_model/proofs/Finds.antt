@@ -1,19 +1,17 @@
 -- The first channel that passes a test, part by part of the channels.
-use Rattle.std.proofs.Common.{◌≡◌, ℕ, ◌+◌, ◌-◌, ◌<◌, ◌≤◌, Bool, true, false, cond, List, [], ◌∷◌, ◌++◌, length, find, Option, None, Some, zero, suc, refl, sym, ap, ◌∙◌, arith, append_assoc, slice_get, eqb, inl, inr, length-append}
+use Rattle.std.proofs.Common.{◌≡◌, ℕ, ◌+◌, ◌-◌, ◌<◌, ◌≤◌, Bool, true, false, cond, List, [], ◌∷◌, ◌++◌, length, find, Option, None, Some, zero, suc, refl, ap, ◌∙◌, arith, append_assoc, slice_get, eqb, length-append}
 use Rattle.std.specs.List.{position_from, flat_map, range_with_len}
-use Rattle.std.specs.Option.{option_and_then, option_or, option_map}
+use Rattle.std.specs.Option.{option_and_then, option_or}
 use Rattle.std.proofs.lemmas.Bool.{cond_both}
 use Rattle.qc_base.specs.declared.ids.End.{End}
-use Rattle.qc_base.specs.declared.ids.End.TheVariants.{A, B}
 use Rattle.trap_model.specs.declared.parts.SegmentPart.{SegmentPart}
-use Rattle.trap_model.specs.declared.channel.Kind.TheVariants.{Move}
 use Rattle.trap_model.specs.declared.channel.Channel.{Channel}
 use Rattle.trap_model.specs.declared.port.Link.{Link}
 use Rattle.trap_model.specs.declared.port.Link.TheVariants as links
 use Rattle.trap_model.specs.declared.port.SlotEnd.{SlotEnd}
 use Rattle.trap_model.specs.Trap.{Lists}
 use Rattle.trap_model.specs.Joins.{links_of, slot_end, arms_of}
-use Rattle.trap_model.specs.Channels.{channel, split, merge, cross, dock_channels, move_channels, moves_from, cross_channels, crossings_of, channels_of, channel_at}
+use Rattle.trap_model.specs.Channels.{split, merge, cross, dock_channels, move_channels, moves_from, cross_channels, crossings_of, channels_of, channel_at}
 use Rattle.trap_model.proofs.Slots.{slice_get_right}
 
 found_here : {X : Type 0} (p : X → Bool) (before : List X) (x : X) (xs : List X) (b : Bool)

@@ -1,9 +1,9 @@
 -- What the joins of a trap are, where each passes its tests.
-use Rattle.std.proofs.Common.{◌≡◌, ◌≢◌, ℕ, ◌+◌, ◌<◌, ◌≤◌, Bool, true, false, not, ◌&&◌, ◌||◌, List, [], ◌∷◌, ◌++◌, length, get_or, Option, None, Some, Result, Ok, Err, zero, suc, refl, sym, ap, ◌∙◌, arith, append_assoc, eqb}
+use Rattle.std.proofs.Common.{◌≡◌, ◌≢◌, ℕ, ◌+◌, Bool, true, false, not, List, [], ◌∷◌, ◌++◌, Option, None, Some, Result, Ok, Err, zero, suc, refl, sym, ap, ◌∙◌, arith, append_assoc, eqb}
 use Rattle.std.specs.Bool.{Decides}
-use Rattle.std.specs.List.{All, AllPairs, list_any, flat_map, filter_map, cons_option}
-use Rattle.std.specs.Option.{ok_or, option_and_then, option_map, IsSome}
-use Rattle.std.proofs.lemmas.Bool.{or_parts, not-true}
+use Rattle.std.specs.List.{All, AllPairs, list_any, flat_map, filter_map}
+use Rattle.std.specs.Option.{ok_or, option_and_then, IsSome}
+use Rattle.std.proofs.lemmas.Bool.{or_parts}
 use Rattle.std.proofs.lemmas.Bool.Decides.{Decides-eqb, Decides-and}
 use Rattle.std.proofs.lemmas.List.{append-nil}
 use Rattle.std.proofs.lemmas.List.Concat.{flat_map-append}
@@ -17,9 +17,9 @@ use Rattle.trap_model.specs.declared.port.Port.TheVariants as ports
 use Rattle.trap_model.specs.declared.port.Link.{Link}
 use Rattle.trap_model.specs.declared.port.Link.TheVariants as links
 use Rattle.trap_model.specs.Trap.{Lists}
-use Rattle.trap_model.specs.Joins.{same_end, port_named, link_of, link_at, links_of, ends_of}
+use Rattle.trap_model.specs.Joins.{same_end, port_named, link_of, link_at, ends_of}
 use Rattle.trap_model.specs.Build.{◌>>◌, ◌>>=◌, unless, same_port, is_taken, join_of, joins_from}
-use Rattle.trap_model.proofs.Tests.{err_ok, unless_passes}
+use Rattle.trap_model.proofs.Passed.{err_ok}
 use Rattle.trap_model.proofs.Distinct.{distinct_more}
 
 -- a join that passes: it joins what it says, and its ends are free

@@ -1,5 +1,5 @@
 -- The parts that the joins of a trap name are there.
-use Rattle.std.proofs.Common.{◌≡◌, ℕ, ◌+◌, ◌<◌, ◌≤◌, Bool, true, false, cond, List, [], ◌∷◌, length, get_or, Option, None, Some, zero, suc, refl, arith, eqb}
+use Rattle.std.proofs.Common.{◌≡◌, ℕ, ◌+◌, ◌<◌, Bool, true, false, cond, List, [], ◌∷◌, length, get_or, Option, None, Some, zero, suc, arith, eqb}
 use Rattle.std.proofs.lemmas.Option.{none-some, cond_some, same_Some}
 use Rattle.std.specs.Option.{option_map, option_or, option_and_then, IfSome}
 use Rattle.std.specs.List.{filter_map, position_from, cons_option}

@@ -5,7 +5,7 @@ pub mod Rows
 pub mod Finding
 pub mod Passages
 pub mod Distinct
-pub mod Tests
+pub mod Passed
 pub mod Joined
 pub mod Sound
 pub mod Slots
@@ -17,3 +17,4 @@ pub mod Crosses
 pub mod Within
 pub mod ReadTables
 pub mod PlaceTexts
+pub mod Accepted

@@ -1,8 +1,8 @@
 -- The moves are those between neighbouring slots of one segment.
-use Rattle.std.proofs.Common.{◌≡◌, ℕ, ◌+◌, ◌-◌, ◌<◌, ◌≤◌, Bool, true, false, cond, ◌&&◌, List, [], ◌∷◌, ◌++◌, length, find, Option, None, Some, zero, suc, refl, sym, ap, ◌∙◌, arith, slice_get, slice_index, eqb, ltb, inl, inr, ◌⊎◌}
+use Rattle.std.proofs.Common.{◌≡◌, ℕ, ◌+◌, ◌-◌, ◌<◌, ◌≤◌, Bool, true, false, cond, ◌&&◌, List, [], ◌∷◌, length, find, Option, None, Some, zero, suc, refl, sym, ap, ◌∙◌, arith, slice_get, slice_index, eqb, ltb, inl, inr, ◌⊎◌}
 use Rattle.std.specs.List.{flat_map, range_with_len}
 use Rattle.std.specs.Option.{option_or}
-use Rattle.std.proofs.lemmas.Bool.{cases_lt, cases_eq, cases_Bool, eq-eqb, ne_eqb, eqb-true, eqb-false, cond-true, cond-false, lt-ltb, and_parts, cond_both, and_left, and_right}
+use Rattle.std.proofs.lemmas.Bool.{cases_lt, cases_eq, eq-eqb, ne_eqb, eqb-true, cond-true, cond-false, lt-ltb, and_left, and_right}
 use Rattle.std.proofs.lemmas.Option.{slice_get_past}
 use Rattle.qc_base.specs.declared.ids.End.TheVariants.{A, B}
 use Rattle.trap_model.specs.declared.parts.SegmentPart.{SegmentPart}
@@ -11,10 +11,10 @@ use Rattle.trap_model.specs.declared.channel.Channel.{Channel}
 use Rattle.trap_model.specs.declared.port.Slot.{Slot}
 use Rattle.trap_model.specs.Trap.{Lists, slot, slots_from, slot_count, slot_at, place_count}
 use Rattle.trap_model.specs.Joins.{firsts_from, first_slot, slots_of, links_of}
-use Rattle.trap_model.specs.Channels.{channel, dock_channels, move_channels, moves_from, crossings_of, channels_of, channel_at, is_move, move_of, move_channel, same_segment}
+use Rattle.trap_model.specs.Channels.{channel, move_channels, moves_from, channel_at, is_move, move_of, move_channel, same_segment}
 use Rattle.trap_model.proofs.Rows.{row_begins}
 use Rattle.trap_model.proofs.Slots.{slots_in, slot_place, slot_at_row, slot_at_behind, length-slots_from, IsSlotPlace}
-use Rattle.trap_model.proofs.Finds.{channel_found, find_parts, find-append, no_pairs, no_moves, no_docks, no_crossings, or_none}
+use Rattle.trap_model.proofs.Finds.{channel_found, find_parts, find-append, no_moves, no_docks, no_crossings, or_none}
 
 -- the test passes one channel, in the pair of one slot
 abbrev pub Picks : (Channel → Bool) → Channel → ℕ → Type 0
@@ -34,8 +34,8 @@ pairs_hit : (p : Channel → Bool) (c : Channel) (t : ℕ) → Picks p c t → (
 pairs_hit p c t h place zero low high = absurd (omega arith)
 pairs_hit p c t h place (suc n) low high =
     elim (cases_eq t place) [
-      inl same ↦ first_pair p place n (Some c) (picked p c t place h same)
-    | inr other ↦ first_pair p place n None (passed p c t place h other) ∙ pairs_hit p c t h (place + 1) n (omega (arith, other)) (omega arith)
+      | inl same ↦ first_pair p place n (Some c) (picked p c t place h same)
+      | inr other ↦ first_pair p place n None (passed p c t place h other) ∙ pairs_hit p c t h (place + 1) n (omega (arith, other)) (omega arith)
     ]
 
 pairs_miss : (p : Channel → Bool) (c : Channel) (t : ℕ) → Picks p c t → (place n : ℕ) → (t < place) ⊎ (place + n ≤ t) → find p (flat_map move_channels (range_with_len place n)) ≡ None
@@ -102,26 +102,26 @@ move_found : (trap : Lists) (p : Channel → Bool) (c : Channel) (t : ℕ) → P
     → find p (moves_from (length trap.zones) trap.segments) ≡ cond (same_segment (slot_at trap t) (slot_at trap (t + 1))) (Some c) None
 move_found trap p c t h =
     elim (cases_lt t (length trap.zones)) [
-      inl zone ↦ rw (no_slot_zone trap t zone) (moves_before p c t h (length trap.zones) trap.segments zone)
-    | inr past ↦ elim (cases_lt t (place_count trap)) [
-        inr beyond ↦ rw (no_slot_past trap t beyond) (moves_past p c t h (length trap.zones) trap.segments beyond)
-      | inl inside ↦
-          let here = slot_place trap t past inside in
-          rw (slot_of_place trap t past here) (elim (cases_lt (here.index + 1) (slots_of trap here.segment)) [
-            inl more ↦
-              let next : slot_at trap (t + 1) ≡ Some (slot here.segment (here.index + 1)) =
+      | inl zone ↦ rw (no_slot_zone trap t zone) (moves_before p c t h (length trap.zones) trap.segments zone)
+      | inr past ↦ elim (cases_lt t (place_count trap)) [
+        | inr beyond ↦ rw (no_slot_past trap t beyond) (moves_past p c t h (length trap.zones) trap.segments beyond)
+        | inl inside ↦
+            let here = slot_place trap t past inside in
+            rw (slot_of_place trap t past here) (elim (cases_lt (here.index + 1) (slots_of trap here.segment)) [
+              | inl more ↦
+                  let next : slot_at trap (t + 1) ≡ Some (slot here.segment (here.index + 1)) =
                   (let place : first_slot trap here.segment + (here.index + 1) ≡ t + 1 = omega (arith, here.at) in rw place at (slot_at_row trap here.segment (here.index + 1) here.there more)) in
-              rw (next, eq-eqb here.segment here.segment refl) (moves_hit p c t h (length trap.zones) trap.segments here.segment here.index here.there here.at more)
-          | inr last ↦
-              moves_last p c t h (length trap.zones) trap.segments here.segment here.index here.there here.at (omega (arith, last, here.below))
-              ∙ sym (elim (cases_lt (t + 1) (place_count trap)) [
-                  inr end ↦ rw (no_slot_past trap (t + 1) end) refl
-                | inl there ↦
-                    let next = slot_place trap (t + 1) (omega (arith, past)) there in
-                    let apart : here.segment ≡ next.segment → ⊥ = λ same. other_row trap t here next last same in
-                    rw (slot_of_place trap (t + 1) (omega (arith, past)) next, ne_eqb here.segment next.segment apart) refl
-                ])
-          ])
+                  rw (next, eq-eqb here.segment here.segment refl) (moves_hit p c t h (length trap.zones) trap.segments here.segment here.index here.there here.at more)
+              | inr last ↦
+                  moves_last p c t h (length trap.zones) trap.segments here.segment here.index here.there here.at (omega (arith, last, here.below))
+                  ∙ sym (elim (cases_lt (t + 1) (place_count trap)) [
+                    | inr end ↦ rw (no_slot_past trap (t + 1) end) refl
+                    | inl there ↦
+                        let next = slot_place trap (t + 1) (omega (arith, past)) there in
+                        let apart : here.segment ≡ next.segment → ⊥ = λ same. other_row trap t here next last same in
+                        rw (slot_of_place trap (t + 1) (omega (arith, past)) next, ne_eqb here.segment next.segment apart) refl
+                  ])
+            ])
       ]
     ]
 
@@ -136,8 +136,8 @@ backward to s false is = refl
 next_same : (t s : ℕ) → eqb (t + 1) (s + 1) ≡ eqb t s
 next_same t s =
     elim (cases_eq t s) [
-      inl same ↦ eq-eqb (t + 1) (s + 1) (omega (arith, same)) ∙ sym (eq-eqb t s same)
-    | inr other ↦ ne_eqb (t + 1) (s + 1) (λ same. other (omega (arith, same))) ∙ sym (ne_eqb t s other)
+      | inl same ↦ eq-eqb (t + 1) (s + 1) (omega (arith, same)) ∙ sym (eq-eqb t s same)
+      | inr other ↦ ne_eqb (t + 1) (s + 1) (λ same. other (omega (arith, same))) ∙ sym (ne_eqb t s other)
     ]
 
 and_self : (b : Bool) → (b && b) ≡ b
@@ -147,15 +147,15 @@ and_self false = refl
 not_both : (t s : ℕ) → (eqb t (s + 1) && eqb (t + 1) s) ≡ false
 not_both t s =
     elim (cases_eq t (s + 1)) [
-      inl same ↦ and_right (eqb t (s + 1)) (eqb (t + 1) s) (ne_eqb (t + 1) s (λ e. omega (arith, same, e)))
-    | inr other ↦ and_left (eqb t (s + 1)) (eqb (t + 1) s) (ne_eqb t (s + 1) other)
+      | inl same ↦ and_right (eqb t (s + 1)) (eqb (t + 1) s) (ne_eqb (t + 1) s (λ e. omega (arith, same, e)))
+      | inr other ↦ and_left (eqb t (s + 1)) (eqb (t + 1) s) (ne_eqb t (s + 1) other)
     ]
 
 not_either : (t s : ℕ) → (eqb (t + 1) s && eqb t (s + 1)) ≡ false
 not_either t s =
     elim (cases_eq t (s + 1)) [
-      inl same ↦ and_left (eqb (t + 1) s) (eqb t (s + 1)) (ne_eqb (t + 1) s (λ e. omega (arith, same, e)))
-    | inr other ↦ and_right (eqb (t + 1) s) (eqb t (s + 1)) (ne_eqb t (s + 1) other)
+      | inl same ↦ and_left (eqb (t + 1) s) (eqb t (s + 1)) (ne_eqb (t + 1) s (λ e. omega (arith, same, e)))
+      | inr other ↦ and_right (eqb (t + 1) s) (eqb t (s + 1)) (ne_eqb t (s + 1) other)
     ]
 
 picks_ahead : (from : ℕ) → Picks (is_move from (from + 1)) (channel Move from B (from + 1) A None) from
@@ -168,13 +168,13 @@ picks_back to = λ s. rw (not_either to s, next_same to s, and_self) (backward t
 no_pair : (from to s : ℕ) → (to ≡ from + 1 → ⊥) → (from ≡ to + 1 → ⊥) → find (is_move from to) (move_channels s) ≡ None
 no_pair from to s ahead back =
     let f : (eqb from s && eqb to (s + 1)) ≡ false = elim (cases_eq from s) [
-          inl same ↦ and_right (eqb from s) (eqb to (s + 1)) (ne_eqb to (s + 1) (λ e. ahead (omega (arith, same, e))))
-        | inr other ↦ and_left (eqb from s) (eqb to (s + 1)) (ne_eqb from s other)
-        ] in
+      | inl same ↦ and_right (eqb from s) (eqb to (s + 1)) (ne_eqb to (s + 1) (λ e. ahead (omega (arith, same, e))))
+      | inr other ↦ and_left (eqb from s) (eqb to (s + 1)) (ne_eqb from s other)
+    ] in
     let b : (eqb from (s + 1) && eqb to s) ≡ false = elim (cases_eq to s) [
-          inl same ↦ and_left (eqb from (s + 1)) (eqb to s) (ne_eqb from (s + 1) (λ e. back (omega (arith, same, e))))
-        | inr other ↦ and_right (eqb from (s + 1)) (eqb to s) (ne_eqb to s other)
-        ] in
+      | inl same ↦ and_left (eqb from (s + 1)) (eqb to s) (ne_eqb from (s + 1) (λ e. back (omega (arith, same, e))))
+      | inr other ↦ and_right (eqb from (s + 1)) (eqb to s) (ne_eqb to s other)
+    ] in
     rw (f, b) refl
 
 same_segment_sym : (a b : Option Slot) → same_segment a b ≡ same_segment b a
@@ -183,8 +183,8 @@ same_segment_sym None (Some t) = refl
 same_segment_sym (Some s) None = refl
 same_segment_sym (Some s) (Some t) =
     elim (cases_eq s.segment t.segment) [
-      inl same ↦ eq-eqb s.segment t.segment same ∙ sym (eq-eqb t.segment s.segment (sym same))
-    | inr other ↦ ne_eqb s.segment t.segment other ∙ sym (ne_eqb t.segment s.segment (λ e. other (sym e)))
+      | inl same ↦ eq-eqb s.segment t.segment same ∙ sym (eq-eqb t.segment s.segment (sym same))
+      | inr other ↦ ne_eqb s.segment t.segment other ∙ sym (ne_eqb t.segment s.segment (λ e. other (sym e)))
     ]
 
 cond_same : {X : Type 0} (b : Bool) (x : X) → cond b x x ≡ x
@@ -194,15 +194,15 @@ cond_same false x = refl
 find_move : (trap : Lists) (from to : ℕ) → find (is_move from to) (moves_from (length trap.zones) trap.segments) ≡ move_channel trap from to
 find_move trap from to =
     elim (cases_eq to (from + 1)) [
-      inl ahead ↦
-        rw (ahead, eq-eqb (from + 1) (from + 1) refl) (move_found trap (is_move from (from + 1)) (channel Move from B (from + 1) A None) from (picks_ahead from))
-    | inr apart ↦ elim (cases_eq from (to + 1)) [
-        inl back ↦
-          rw (back, ne_eqb to ((to + 1) + 1) (λ e. omega (arith, e)), eq-eqb (to + 1) (to + 1) refl, same_segment_sym (slot_at trap (to + 1)) (slot_at trap to))
-          (move_found trap (is_move (to + 1) to) (channel Move (to + 1) A to B None) to (picks_back to))
-      | inr other ↦
-          rw (ne_eqb to (from + 1) apart, ne_eqb from (to + 1) other, cond_same)
-          (no_moves (is_move from to) (λ s. no_pair from to s apart other) (length trap.zones) trap.segments)
+      | inl ahead ↦
+          rw (ahead, eq-eqb (from + 1) (from + 1) refl) (move_found trap (is_move from (from + 1)) (channel Move from B (from + 1) A None) from (picks_ahead from))
+      | inr apart ↦ elim (cases_eq from (to + 1)) [
+        | inl back ↦
+            rw (back, ne_eqb to ((to + 1) + 1) (λ e. omega (arith, e)), eq-eqb (to + 1) (to + 1) refl, same_segment_sym (slot_at trap (to + 1)) (slot_at trap to))
+            (move_found trap (is_move (to + 1) to) (channel Move (to + 1) A to B None) to (picks_back to))
+        | inr other ↦
+            rw (ne_eqb to (from + 1) apart, ne_eqb from (to + 1) other, cond_same)
+            (no_moves (is_move from to) (λ s. no_pair from to s apart other) (length trap.zones) trap.segments)
       ]
     ]
 

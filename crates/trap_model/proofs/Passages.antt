@@ -1,5 +1,5 @@
 -- One passage more.
-use Rattle.std.proofs.Common.{◌≡◌, ℕ, ◌+◌, ◌-◌, ◌<◌, ◌≤◌, max, Bool, false, drop, take, zero, suc, refl, List, [], ◌∷◌, ◌++◌, length, get_or, inl, inr, arith}
+use Rattle.std.proofs.Common.{◌≡◌, ℕ, ◌+◌, ◌-◌, ◌≤◌, max, Bool, false, drop, take, zero, suc, refl, List, [], ◌∷◌, ◌++◌, length, inl, inr, arith}
 use Rattle.std.proofs.lemmas.Bool.{cases_order, or_parts}
 use Rattle.std.proofs.lemmas.List.{length_push, get_or_push, get_or_append_left, drop-drop}
 use Rattle.std.specs.List.{list_any}
@@ -13,12 +13,12 @@ pub passages_more : (channels : List Channel) (n : ℕ) (passages : List Passage
 passages_more channels n passages passage all one = record {
   count = omega (arith, length_push passages passage, all.count);
   each = λ k d h. elim (cases_order k n) [
-      inl same ↦ rw (get_or_push passages passage d k (omega (arith, all.count, same))) (rw (same) one)
+    | inl same ↦ rw (get_or_push passages passage d k (omega (arith, all.count, same))) (rw (same) one)
     | inr side ↦ elim side [
-        inl below ↦ rw (get_or_append_left passages (passage ∷ []) d k (omega (arith, all.count, below))) (all.each k d below)
+      | inl below ↦ rw (get_or_append_left passages (passage ∷ []) d k (omega (arith, all.count, below))) (all.each k d below)
       | inr above ↦ absurd (omega (arith, above, h))
-      ]
-    ];
+    ]
+  ];
 }
 
 none_later : {X : Type 0} (q : X → Bool) (n : ℕ) (xs : List X) → list_any q xs ≡ false → list_any q (drop n xs) ≡ false

@@ -1,13 +1,13 @@
 -- How places are written, and which place a text is.
-use Rattle.std.proofs.Common.{◌≡◌, ◌≢◌, ℕ, ◌+◌, ◌-◌, ◌<◌, ◌≤◌, ◌^◌, Bool, true, false, cond, ◌&&◌, ◌||◌, List, [], ◌∷◌, ◌++◌, length, take, drop, get_or, find, Option, None, Some, zero, suc, refl, sym, ap, ◌∙◌, arith, slice_get, inl, inr, ◌⊎◌, eqb, leb, append_assoc, codes, map, IsTrue, length-append}
+use Rattle.std.proofs.Common.{◌≡◌, ◌≢◌, ℕ, ◌+◌, ◌-◌, ◌<◌, ◌≤◌, ◌^◌, Bool, true, false, ◌&&◌, List, [], ◌∷◌, ◌++◌, length, take, drop, get_or, find, Option, None, Some, zero, suc, refl, sym, ap, ◌∙◌, arith, slice_get, inl, inr, eqb, leb, append_assoc, codes, map, length-append}
 use Rattle.std.specs.Fmt.{decimal}
-use Rattle.std.specs.List.{AllPairs, All, range_with_len, list_all, position_from}
-use Rattle.std.specs.Option.{option_map_or, option_map, MatchOption}
+use Rattle.std.specs.List.{AllPairs, range_with_len, list_all, position_from}
+use Rattle.std.specs.Option.{option_map, MatchOption}
 use Rattle.std.specs.Str.{bytes_eq}
 use Rattle.std.proofs.lemmas.Bool.{cases_lt, cases_eq, cases_order, cases_Bool, cond-true, cond-false, and_parts, or_parts, or_right, both_ways, eq-eqb, ne_eqb, false_from_ne_true}
 use Rattle.std.proofs.lemmas.Fmt.{decimal_injective}
-use Rattle.std.proofs.lemmas.List.{append-nil, get_or_append_left, get_or-append-add, get_or_default, length-map, take-append-drop, drop_more}
-use Rattle.std.proofs.lemmas.Option.{none-some, same_Some, slice_get_past, slice_get_read, slice_get_cases, slice_get-get_or, slice_get-map, get_or_from_slice_get}
+use Rattle.std.proofs.lemmas.List.{get_or_append_left, get_or-append-add, get_or_default, length-map, take-append-drop, drop_more}
+use Rattle.std.proofs.lemmas.Option.{none-some, same_Some, slice_get_past, slice_get_read, slice_get_cases, slice_get-map, get_or_from_slice_get}
 use Rattle.std.proofs.lemmas.Slice.Eq.{bytes_eq-Decides}
 use Rattle.qc_base.specs.declared.ids.PlaceId.{PlaceId}
 use Rattle.trap_model.specs.declared.parts.SegmentPart.{SegmentPart}
@@ -15,12 +15,12 @@ use Rattle.trap_model.specs.declared.parts.ZonePart.{ZonePart}
 use Rattle.trap_model.specs.declared.port.Slot.{Slot}
 use Rattle.trap_model.specs.Names.{is_name, is_word, begins_with_letter}
 use Rattle.trap_model.specs.Texts.{has_dot, IsSlotText, IsNoSlotText}
-use Rattle.trap_model.specs.Trap.{Lists, names_of, slot, slots_from, slot_at, slot_count, place_count, place_text, slot_text, place_named}
+use Rattle.trap_model.specs.Trap.{Lists, names_of, slot, place_count, place_text, place_named}
 use Rattle.trap_model.specs.Joins.{firsts_from, first_slot, slots_of, zone_named, segment_named}
 use Rattle.trap_model.specs.Build.{IsTrap}
 use Rattle.trap_model.proofs.Known.{position_at}
 use Rattle.trap_model.proofs.Rows.{row_of, length-firsts_from}
-use Rattle.trap_model.proofs.Slots.{IsSlotRead, slot_place, slot_at_row, IsSlotPlace}
+use Rattle.trap_model.proofs.Slots.{IsSlotRead, slot_place, slot_at_row}
 use Rattle.trap_model.proofs.Moves.{no_slot_past, slot_of_place}
 
 -- a slot is written by its segment's name and its number
@@ -37,8 +37,8 @@ text_past trap place h = rw (slice_get_past trap.zones place (omega arith), no_s
 word_is_no_dot : (byte : ℕ) → is_word byte ≡ true → eqb byte 46 ≡ false
 word_is_no_dot byte w =
     elim (cases_eq byte 46) [
-      inl dot ↦ absurd (both_ways (is_word 46) refl (rw dot at w))
-    | inr other ↦ ne_eqb byte 46 other
+      | inl dot ↦ absurd (both_ways (is_word 46) refl (rw dot at w))
+      | inr other ↦ ne_eqb byte 46 other
     ]
 
 words_have_no_dot : (bytes : List ℕ) → list_all is_word bytes ≡ true → has_dot bytes ≡ false
@@ -74,8 +74,8 @@ dot_stands (x ∷ a) b = or_right (eqb x 46) (has_dot (a ++ 46 ∷ b)) (dot_stan
 pub unique : {X : Type 0} (xs : List X) (i j : ℕ) (d : X) → AllPairs (λ a b. a ≢ b) xs → i < length xs → j < length xs → get_or xs i d ≡ get_or xs j d → i ≡ j
 unique xs i j d all p q e =
     elim (cases_order i j) [
-      inl same ↦ same
-    | inr side ↦ elim side [ inl below ↦ absurd (all i j d below q e) | inr above ↦ absurd (all j i d above p (sym e)) ]
+      | inl same ↦ same
+      | inr side ↦ elim side [ inl below ↦ absurd (all i j d below q e) | inr above ↦ absurd (all j i d above p (sym e)) ]
     ]
 
 -- the names of zones and of segments among all names
@@ -118,19 +118,19 @@ pub slot_written_so : (trap : Lists) (place : ℕ) → length trap.zones ≤ pla
 slot_written_so trap place past h =
     let p = slot_place trap place past h in
     elim (slice_get_cases trap.segments p.segment).1 [
-      inl there ↦
-        let part = there.0 in
-        record {
-          segment = p.segment;
-          index = p.index;
-          part = part;
-          there = p.there;
-          below = p.below;
-          at = p.at;
-          is = there.2;
-          text = rw (slice_get_past trap.zones place past, slot_of_place trap place past p, there.2) (append_assoc part.name (46 ∷ []) (decimal p.index));
-        }
-    | inr past ↦ absurd (omega (arith, past.0, p.there))
+      | inl there ↦
+          let part = there.0 in
+          record {
+            segment = p.segment;
+            index = p.index;
+            part = part;
+            there = p.there;
+            below = p.below;
+            at = p.at;
+            is = there.2;
+            text = rw (slice_get_past trap.zones place past, slot_of_place trap place past p, there.2) (append_assoc part.name (46 ∷ []) (decimal p.index));
+          }
+      | inr past ↦ absurd (omega (arith, past.0, p.there))
     ]
 
 pub record IsZoneText (trap : Lists) (place : ℕ) : Type 0 where
@@ -141,8 +141,8 @@ pub record IsZoneText (trap : Lists) (place : ℕ) : Type 0 where
 pub zone_written_so : (trap : Lists) (place : ℕ) → place < length trap.zones → IsZoneText trap place
 zone_written_so trap place h =
     elim (slice_get_cases trap.zones place).1 [
-      inl there ↦ record { zone = there.0; is = there.2; text = rw there.2 refl }
-    | inr past ↦ absurd (omega (arith, past.0))
+      | inl there ↦ record { zone = there.0; is = there.2; text = rw there.2 refl }
+      | inr past ↦ absurd (omega (arith, past.0))
     ]
 
 zone_no_dot : (trap : Lists) (place : ℕ) (zone : ZonePart) → IsTrap trap → place < length trap.zones → slice_get trap.zones place ≡ Some zone → has_dot zone.name ≡ false
@@ -169,42 +169,42 @@ small_slots trap s t h = (row_of trap s t h).few
 pub texts_differ : (trap : Lists) (p q : ℕ) → IsTrap trap → p < place_count trap → q < place_count trap → place_text trap p ≡ place_text trap q → p ≡ q
 texts_differ trap p q t hp hq e =
     elim (cases_lt p (length trap.zones)) [
-      inl zp ↦
-        let a = zone_written_so trap p zp in
-        elim (cases_lt q (length trap.zones)) [
-          inl zq ↦
-            let b = zone_written_so trap q zq in
-            let same = zone_name trap p a.zone [] zp a.is ∙ sym a.text ∙ e ∙ b.text ∙ sym (zone_name trap q b.zone [] zq b.is) in
-            unique (names_of trap) p q [] t.names (omega (arith, names_count trap)) (omega (arith, names_count trap)) same
-        | inr sq ↦
-            let b = slot_written_so trap q sq hq in
-            let alike : a.zone.name ≡ b.part.name ++ 46 ∷ decimal b.index = sym a.text ∙ e ∙ b.text in
-            absurd (both_ways (has_dot a.zone.name) (zone_no_dot trap p a.zone t zp a.is) (rw alike (dot_stands b.part.name (decimal b.index))))
-        ]
-    | inr sp ↦
-        let a = slot_written_so trap p sp hp in
-        elim (cases_lt q (length trap.zones)) [
-          inl zq ↦
-            let b = zone_written_so trap q zq in
-            let alike : b.zone.name ≡ a.part.name ++ 46 ∷ decimal a.index = sym b.text ∙ sym e ∙ a.text in
-            absurd (both_ways (has_dot b.zone.name) (zone_no_dot trap q b.zone t zq b.is) (rw alike (dot_stands a.part.name (decimal a.index))))
-        | inr sq ↦
-            let b = slot_written_so trap q sq hq in
-            let parts = dot_parts a.part.name (decimal a.index) b.part.name (decimal b.index) (segment_no_dot trap a.segment a.part t a.there a.is) (segment_no_dot trap b.segment b.part t b.there b.is) (sym a.text ∙ e ∙ b.text) in
-            let segment = same_segment_name trap a.segment b.segment a.part b.part t a.there b.there a.is b.is parts.0 in
-            let index = decimal_injective a.index b.index (omega (arith, a.below, small_slots trap a.segment t a.there)) (omega (arith, b.below, small_slots trap b.segment t b.there)) parts.1 in
-            sym a.at ∙ rw (segment, index) b.at
-        ]
+      | inl zp ↦
+          let a = zone_written_so trap p zp in
+          elim (cases_lt q (length trap.zones)) [
+            | inl zq ↦
+                let b = zone_written_so trap q zq in
+                let same = zone_name trap p a.zone [] zp a.is ∙ sym a.text ∙ e ∙ b.text ∙ sym (zone_name trap q b.zone [] zq b.is) in
+                unique (names_of trap) p q [] t.names (omega (arith, names_count trap)) (omega (arith, names_count trap)) same
+            | inr sq ↦
+                let b = slot_written_so trap q sq hq in
+                let alike : a.zone.name ≡ b.part.name ++ 46 ∷ decimal b.index = sym a.text ∙ e ∙ b.text in
+                absurd (both_ways (has_dot a.zone.name) (zone_no_dot trap p a.zone t zp a.is) (rw alike (dot_stands b.part.name (decimal b.index))))
+          ]
+      | inr sp ↦
+          let a = slot_written_so trap p sp hp in
+          elim (cases_lt q (length trap.zones)) [
+            | inl zq ↦
+                let b = zone_written_so trap q zq in
+                let alike : b.zone.name ≡ a.part.name ++ 46 ∷ decimal a.index = sym b.text ∙ sym e ∙ a.text in
+                absurd (both_ways (has_dot b.zone.name) (zone_no_dot trap q b.zone t zq b.is) (rw alike (dot_stands a.part.name (decimal a.index))))
+            | inr sq ↦
+                let b = slot_written_so trap q sq hq in
+                let parts = dot_parts a.part.name (decimal a.index) b.part.name (decimal b.index) (segment_no_dot trap a.segment a.part t a.there a.is) (segment_no_dot trap b.segment b.part t b.there b.is) (sym a.text ∙ e ∙ b.text) in
+                let segment = same_segment_name trap a.segment b.segment a.part b.part t a.there b.there a.is b.is parts.0 in
+                let index = decimal_injective a.index b.index (omega (arith, a.below, small_slots trap a.segment t a.there)) (omega (arith, b.below, small_slots trap b.segment t b.there)) parts.1 in
+                sym a.at ∙ rw (segment, index) b.at
+          ]
     ]
 
 find_one : (test : ℕ → Bool) (k first n : ℕ) → first ≤ k → k < first + n → test k ≡ true → ((j : ℕ) → j < first + n → test j ≡ true → j ≡ k) → find test (range_with_len first n) ≡ Some k
 find_one test k first zero low high here only = absurd (omega arith)
 find_one test k first (suc n) low high here only =
     elim (cases_Bool (test first)) [
-      inl now ↦ cond-true (test first) (Some first) (find test (range_with_len (first + 1) n)) now ∙ ap (λ x. Some x) (only first (omega arith) now)
-    | inr not ↦
-        let later : first ≡ k → ⊥ = λ same. both_ways (test first) not (rw same here) in
-        cond-false (test first) (Some first) (find test (range_with_len (first + 1) n)) not ∙ find_one test k (first + 1) n (omega (arith, later)) (omega arith) here (λ j h t. only j (omega arith) t)
+      | inl now ↦ cond-true (test first) (Some first) (find test (range_with_len (first + 1) n)) now ∙ ap (λ x. Some x) (only first (omega arith) now)
+      | inr not ↦
+          let later : first ≡ k → ⊥ = λ same. both_ways (test first) not (rw same here) in
+          cond-false (test first) (Some first) (find test (range_with_len (first + 1) n)) not ∙ find_one test k (first + 1) n (omega (arith, later)) (omega arith) here (λ j h t. only j (omega arith) t)
     ]
 
 find_no : (test : ℕ → Bool) (first n : ℕ) → ((j : ℕ) → j < first + n → test j ≡ false) → find test (range_with_len first n) ≡ None
@@ -218,32 +218,32 @@ named_is trap k text t h is =
     let test = λ (place : ℕ). bytes_eq (place_text trap place) text in
     let here : test k ≡ true = (bytes_eq-Decides (place_text trap k) text).1 is in
     find_one test k 0 (place_count trap) (omega arith) (omega arith) here
-      (λ j below same. texts_differ trap j k t (omega arith) h ((bytes_eq-Decides (place_text trap j) text).0 same ∙ sym is))
+    (λ j below same. texts_differ trap j k t (omega arith) h ((bytes_eq-Decides (place_text trap j) text).0 same ∙ sym is))
 
 pub named_none : (trap : Lists) (text : List ℕ) → ((place : ℕ) → place < place_count trap → place_text trap place ≢ text) → place_named trap text ≡ None
 named_none trap text none =
     find_no (λ place. bytes_eq (place_text trap place) text) 0 (place_count trap)
-      (λ j below. false_from_ne_true (bytes_eq (place_text trap j) text) (λ same. none j (omega arith) ((bytes_eq-Decides (place_text trap j) text).0 same)))
+    (λ j below. false_from_ne_true (bytes_eq (place_text trap j) text) (λ same. none j (omega arith) ((bytes_eq-Decides (place_text trap j) text).0 same)))
 
 position_true : {X : Type 0} (p : X → Bool) (i : ℕ) (xs : List X) (k : ℕ) (d : X) → position_from p i xs ≡ Some k → (i ≤ k) × (p (get_or xs (k - i) d) ≡ true)
 position_true p i [] k d e = absurd (none-some k e)
 position_true p i (x ∷ xs) k d e =
     elim (cases_Bool (p x)) [
-      inl now ↦
-        let same : i ≡ k = same_Some i k (sym (cond-true (p x) (Some i) (position_from p (i + 1) xs) now) ∙ e) in
-        let zeroth : k - i ≡ 0 = omega (arith, same) in
-        (omega (arith, same), rw zeroth now)
-    | inr not ↦
-        let rest = position_true p (i + 1) xs k d (sym (cond-false (p x) (Some i) (position_from p (i + 1) xs) not) ∙ e) in
-        let next : k - i ≡ suc (k - (i + 1)) = omega (arith, rest.0) in
-        (omega (arith, rest.0), rw next rest.1)
+      | inl now ↦
+          let same : i ≡ k = same_Some i k (sym (cond-true (p x) (Some i) (position_from p (i + 1) xs) now) ∙ e) in
+          let zeroth : k - i ≡ 0 = omega (arith, same) in
+          (omega (arith, same), rw zeroth now)
+      | inr not ↦
+          let rest = position_true p (i + 1) xs k d (sym (cond-false (p x) (Some i) (position_from p (i + 1) xs) not) ∙ e) in
+          let next : k - i ≡ suc (k - (i + 1)) = omega (arith, rest.0) in
+          (omega (arith, rest.0), rw next rest.1)
     ]
 
 not_first : {X : Type 0} (p : X → Bool) (i : ℕ) (x : X) (xs : List X) → position_from p i (x ∷ xs) ≡ None → (p x ≡ false) × (position_from p (i + 1) xs ≡ None)
 not_first p i x xs e =
     elim (cases_Bool (p x)) [
-      inl now ↦ absurd (none-some i (sym (sym (cond-true (p x) (Some i) (position_from p (i + 1) xs) now) ∙ e)))
-    | inr not ↦ (not, sym (cond-false (p x) (Some i) (position_from p (i + 1) xs) not) ∙ e)
+      | inl now ↦ absurd (none-some i (sym (sym (cond-true (p x) (Some i) (position_from p (i + 1) xs) now) ∙ e)))
+      | inr not ↦ (not, sym (cond-false (p x) (Some i) (position_from p (i + 1) xs) not) ∙ e)
     ]
 
 position_false : {X : Type 0} (p : X → Bool) (i : ℕ) (xs : List X) → position_from p i xs ≡ None → (n : ℕ) (d : X) → n < length xs → p (get_or xs n d) ≡ false
@@ -354,6 +354,6 @@ pub slot_answer : (trap : Lists) (text : List ℕ) (answer : Option PlaceId) →
 slot_answer trap text (Some place) t zone slot = sym (named_is trap place.0 text t slot.there slot.written)
 slot_answer trap text None t zone none =
     sym (named_none trap text (λ place there. elim (cases_lt place (length trap.zones)) [
-      inl front ↦ zone_not_found trap text zone place front
-    | inr past ↦ none place past there
+      | inl front ↦ zone_not_found trap text zone place front
+      | inr past ↦ none place past there
     ]))

@@ -1,7 +1,6 @@
 -- What stands in a table that is made number by number.
-use Rattle.std.proofs.Common.{◌≡◌, ℕ, ◌+◌, ◌<◌, ◌≤◌, List, length, get_or, map, Option, None, Some, Bool, true, false, cond, refl, sym, ap, ◌∙◌, arith, find, [], ◌∷◌, inl, inr, slice_get}
+use Rattle.std.proofs.Common.{◌≡◌, ℕ, ◌+◌, ◌<◌, ◌≤◌, List, length, get_or, map, None, Some, Bool, refl, sym, ap, ◌∙◌, arith, find, [], ◌∷◌, inl, inr}
 use Rattle.std.specs.List.{range_with_len, position_from}
-use Rattle.std.specs.Option.{option_map, option_and_then}
 use Rattle.std.proofs.lemmas.Bool.{cases_Bool, cond-true, cond-false, ne_eqb}
 use Rattle.std.proofs.lemmas.Option.{none-some}
 use Rattle.std.proofs.lemmas.List.FromFn.{length-map-range_with_len, get_or-map-range_with_len}
@@ -9,7 +8,6 @@ use Rattle.qc_base.specs.declared.ids.End.{End}
 use Rattle.trap_model.specs.declared.channel.Channel.{Channel}
 use Rattle.trap_model.specs.declared.port.Link.{Link}
 use Rattle.trap_model.specs.declared.port.Link.TheVariants as links
-use Rattle.trap_model.specs.declared.port.SlotEnd.{SlotEnd}
 use Rattle.trap_model.specs.Trap.{Lists}
 use Rattle.trap_model.specs.Joins.{links_of, docked, first_of, joined_slot}
 use Rattle.trap_model.specs.Channels.{channels_of, channel_at}
@@ -27,8 +25,8 @@ no_find : {X : Type 0} (p : X → Bool) (i : ℕ) (xs : List X) → find p xs �
 no_find p i [] e = refl
 no_find p i (x ∷ xs) e =
     elim (cases_Bool (p x)) [
-      inl here ↦ absurd (none-some x (sym e ∙ cond-true (p x) (Some x) (find p xs) here))
-    | inr not ↦ cond-false (p x) (Some i) (position_from p (i + 1) xs) not ∙ no_find p (i + 1) xs (sym (cond-false (p x) (Some x) (find p xs) not) ∙ e)
+      | inl here ↦ absurd (none-some x (sym e ∙ cond-true (p x) (Some x) (find p xs) here))
+      | inr not ↦ cond-false (p x) (Some i) (position_from p (i + 1) xs) not ∙ no_find p (i + 1) xs (sym (cond-false (p x) (Some x) (find p xs) not) ∙ e)
     ]
 
 -- no channel, no number

@@ -1,5 +1,5 @@
 -- The slots of a segment lie in a row among the places.
-use Rattle.std.proofs.Common.{◌≡◌, ℕ, ◌+◌, ◌-◌, ◌<◌, ◌≤◌, List, [], ◌∷◌, length, get_or, Option, None, Some, zero, suc, refl, sym, ap, ◌∙◌, arith, slice_get, slice_index, inl, inr}
+use Rattle.std.proofs.Common.{◌≡◌, ℕ, ◌+◌, ◌<◌, ◌≤◌, List, [], ◌∷◌, length, get_or, Some, zero, suc, refl, sym, ap, arith, slice_get, slice_index, inl, inr}
 use Rattle.std.proofs.lemmas.Option.{slice_get_read, slice_get_cases}
 use Rattle.std.specs.Option.{option_map_or}
 use Rattle.trap_model.specs.declared.parts.SegmentPart.{SegmentPart}
@@ -41,16 +41,16 @@ pub record IsRow (trap : Lists) (segment : ℕ) : Type 0 where
 pub row_of : (trap : Lists) (segment : ℕ) → IsTrap trap → segment < length trap.segments → IsRow trap segment
 row_of trap segment t h =
     elim (slice_get_cases trap.segments segment).1 [
-      inl there ↦
-        let part = there.0 in
-        let count : slots_of trap segment ≡ part.slots = slots_read trap.segments segment part h (sym there.3) in
-        let bounds : (1 ≤ part.slots) × (part.slots ≤ 16) = rw (there.3) at (t.lengths segment part h) in
-        record {
-          some = rw count bounds.0;
-          few = rw count bounds.1;
-          begins = row_begins (length trap.zones) trap.segments segment h;
-          within = row_within (length trap.zones) trap.segments segment h;
-          small = omega (arith, t.zones, t.slots);
-        }
-    | inr past ↦ absurd (omega (arith, past.0))
+      | inl there ↦
+          let part = there.0 in
+          let count : slots_of trap segment ≡ part.slots = slots_read trap.segments segment part h (sym there.3) in
+          let bounds : (1 ≤ part.slots) × (part.slots ≤ 16) = rw (there.3) at (t.lengths segment part h) in
+          record {
+            some = rw count bounds.0;
+            few = rw count bounds.1;
+            begins = row_begins (length trap.zones) trap.segments segment h;
+            within = row_within (length trap.zones) trap.segments segment h;
+            small = omega (arith, t.zones, t.slots);
+          }
+      | inr past ↦ absurd (omega (arith, past.0))
     ]

@@ -1,5 +1,5 @@
 -- Which slot stands at which place.
-use Rattle.std.proofs.Common.{◌≡◌, ℕ, ◌+◌, ◌-◌, ◌<◌, ◌≤◌, Bool, true, false, cond, List, [], ◌∷◌, ◌++◌, length, get_or, map, Option, None, Some, zero, suc, refl, sym, ap, ◌∙◌, arith, slice_get, slice_index, ltb, inl, inr, length-append}
+use Rattle.std.proofs.Common.{◌≡◌, ℕ, ◌+◌, ◌-◌, ◌<◌, ◌≤◌, false, List, [], ◌∷◌, ◌++◌, length, get_or, map, None, Some, zero, suc, refl, sym, ap, ◌∙◌, arith, slice_get, slice_index, ltb, inl, inr, length-append}
 use Rattle.std.specs.List.{range_with_len}
 use Rattle.std.specs.Option.{option_map_or}
 use Rattle.std.proofs.lemmas.Bool.{cases_lt, le-ltb, cond-false}
@@ -68,7 +68,7 @@ pub locate : (place number : ℕ) (segments : List SegmentPart) (n : ℕ) → n 
 locate place number [] n h = absurd (omega arith)
 locate place number (segment ∷ segments) n h =
     elim (cases_lt n segment.slots) [
-      inl below ↦ record {
+      | inl below ↦ record {
         segment = 0;
         index = n;
         there = omega arith;
@@ -76,18 +76,18 @@ locate place number (segment ∷ segments) n h =
         at = refl;
         slot_is = slot_in_row place number (segment ∷ segments) 0 n n (omega arith) below refl;
       }
-    | inr past ↦
-        let rest = locate (place + segment.slots) (number + 1) segments (n - segment.slots) (omega (arith, past, h)) in
-        let at : slice_index (firsts_from place (segment ∷ segments)) (suc rest.segment) + rest.index ≡ place + n = omega (arith, rest.at, past) in
-        let there : suc rest.segment < length (segment ∷ segments) = omega (arith, rest.there) in
-        record {
-          segment = suc rest.segment;
-          index = rest.index;
-          there = there;
-          below = rest.below;
-          at = at;
-          slot_is = slot_in_row place number (segment ∷ segments) (suc rest.segment) rest.index n there rest.below at;
-        }
+      | inr past ↦
+          let rest = locate (place + segment.slots) (number + 1) segments (n - segment.slots) (omega (arith, past, h)) in
+          let at : slice_index (firsts_from place (segment ∷ segments)) (suc rest.segment) + rest.index ≡ place + n = omega (arith, rest.at, past) in
+          let there : suc rest.segment < length (segment ∷ segments) = omega (arith, rest.there) in
+          record {
+            segment = suc rest.segment;
+            index = rest.index;
+            there = there;
+            below = rest.below;
+            at = at;
+            slot_is = slot_in_row place number (segment ∷ segments) (suc rest.segment) rest.index n there rest.below at;
+          }
     ]
 
 -- slot j of segment s of a trap

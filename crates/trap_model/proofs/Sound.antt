@@ -1,6 +1,6 @@
 -- Parts that pass all tests keep what each trap keeps.
-use Rattle.std.proofs.Common.{◌≡◌, ◌≢◌, ℕ, ◌+◌, ◌<◌, ◌≤◌, Bool, true, false, not, List, [], ◌∷◌, ◌++◌, length, get_or, Option, None, Some, Result, Ok, Err, zero, suc, refl, sym, ap, ◌∙◌, arith, eqb, leb, ltb}
-use Rattle.std.specs.List.{AllPairs, list_any, filter_map, cons_option, flat_map}
+use Rattle.std.proofs.Common.{◌≡◌, ◌≢◌, ℕ, ◌+◌, ◌<◌, ◌≤◌, true, not, List, [], ◌∷◌, length, get_or, Option, None, Some, Result, Ok, Err, zero, suc, refl, sym, ap, arith, eqb, leb, ltb}
+use Rattle.std.specs.List.{list_any, filter_map, cons_option}
 use Rattle.std.specs.Option.{option_map}
 use Rattle.std.proofs.lemmas.Bool.{and_parts, not-true, leb-true, ltb-true}
 use Rattle.std.proofs.lemmas.Bool.Decides.{Decides-eqb}
@@ -8,11 +8,12 @@ use Rattle.trap_model.specs.declared.port.Link.{Link}
 use Rattle.trap_model.specs.declared.port.SlotEnd.{SlotEnd}
 use Rattle.trap_model.specs.declared.fault.Counted.{Counted}
 use Rattle.trap_model.specs.declared.fault.Counted.TheVariants.{Zones, Segments, Junctions, Slots}
+use Rattle.trap_model.specs.declared.fault.TrapFault.{TrapFault}
 use Rattle.trap_model.specs.declared.fault.TrapFault.TheVariants.{NoZone, TooMany, Double}
 use Rattle.trap_model.specs.Trap.{Lists, names_of, slot_count}
-use Rattle.trap_model.specs.Joins.{links_of, link_at, ends_of, arms_of, arm_at, slot_end, segment_at, segment_end}
-use Rattle.trap_model.specs.Build.{◌>>◌, ◌>>=◌, unless, none_of, few, first_double, hold_ions, are_measured, are_armed, are_arms, all_differ, is_between, segments_at, parts_pass, joins_from, AreNames, IsTrap, HasArms}
-use Rattle.trap_model.proofs.Tests.{then_parts, unless_passes, none_passes, between, capacities_of, lengths_of, loads_of, armed_at}
+use Rattle.trap_model.specs.Joins.{links_of, arm_at, slot_end, segment_at, segment_end}
+use Rattle.trap_model.specs.Build.{◌>>=◌, unless, none_of, few, first_double, hold_ions, are_measured, are_armed, are_arms, all_differ, is_between, segments_at, parts_pass, joins_from, build_of, AreNames, IsTrap, HasArms}
+use Rattle.trap_model.proofs.Passed.{err_ok, then_parts, unless_passes, none_passes, between, capacities_of, lengths_of, loads_of, armed_at}
 use Rattle.trap_model.proofs.Distinct.{names_distinct, all_pairs_none, differs}
 use Rattle.trap_model.proofs.Joined.{links_are, joins_known, joins_once}
 
@@ -107,3 +108,32 @@ sound trap ls words parts joins junctions =
           let number : 0 + junction ≡ junction = omega arith in
           has_arms trap junction (rw (number, same) at (armed_at ls 0 trap.junctions junctions junction h));
     }
+
+ok_same : (x y : Lists) → ◌≡◌ {A = Result Lists TrapFault} (Ok x) (Ok y) → x ≡ y
+ok_same x y e = cc
+
+bind_parts : {X Y : Type 0} (first : Result X TrapFault) (next : X → Result Y TrapFault) (y : Y) → (first >>= next) ≡ Ok y → (x : X) × (first ≡ Ok x) × (next x ≡ Ok y)
+bind_parts (Ok x) next y e = (x, refl, e)
+bind_parts (Err fault) next y e = absurd (err_ok fault y e)
+
+-- what build answers are the parts
+pub record IsBuilt (trap answer : Lists) : Type 0 where
+  pub links : List Link
+  pub parts : parts_pass trap ≡ Ok tt
+  pub joins : joins_from trap 1 [] trap.joins ≡ Ok links
+  pub junctions : are_armed links 0 trap.junctions ≡ Ok tt
+  pub same : answer ≡ trap
+
+pub built : (trap answer : Lists) → build_of trap ≡ Ok answer → IsBuilt trap answer
+unfolding build_of
+built trap answer e =
+    let a = then_parts (parts_pass trap) _ answer e in
+    let b = bind_parts (joins_from trap 1 [] trap.joins) _ answer a.1 in
+    let c = then_parts (are_armed b.0 0 trap.junctions) (Ok trap) answer b.2 in
+    record { links = b.0; parts = a.0; joins = b.1; junctions = c.0; same = sym (ok_same trap answer c.1) }
+
+-- and they keep what each trap keeps
+pub built_trap : (trap answer : Lists) → AreNames (names_of trap) → build_of trap ≡ Ok answer → IsTrap answer
+built_trap trap answer words e =
+    let b = built trap answer e in
+    rw b.same (sound trap b.links words b.parts b.joins b.junctions)

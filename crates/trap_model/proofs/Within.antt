@@ -1,5 +1,5 @@
 -- Both places of each channel are places of the trap.
-use Rattle.std.proofs.Common.{◌≡◌, ℕ, ◌+◌, ◌-◌, ◌<◌, ◌≤◌, Bool, List, [], ◌∷◌, ◌++◌, length, get_or, Option, None, Some, zero, suc, refl, arith, eqb}
+use Rattle.std.proofs.Common.{◌≡◌, ℕ, ◌+◌, ◌-◌, ◌<◌, ◌≤◌, List, [], ◌∷◌, ◌++◌, length, get_or, Option, None, Some, zero, suc, arith, eqb}
 use Rattle.std.specs.List.{flat_map, range_with_len, filter_map, cons_option}
 use Rattle.std.specs.Option.{IfSome, option_map}
 use Rattle.std.proofs.lemmas.Bool.{cond_both}
@@ -14,7 +14,7 @@ use Rattle.trap_model.specs.Trap.{Lists, slot_count, place_count}
 use Rattle.trap_model.specs.Joins.{links_of, slot_end, arms_of, arm_at}
 use Rattle.trap_model.specs.Channels.{dock_channels, move_channels, moves_from, cross_channels, cross, crossings_of, channels_of, AreWithin}
 use Rattle.trap_model.specs.Build.{IsTrap}
-use Rattle.trap_model.proofs.Known.{AreLinks, IsLink, links_known}
+use Rattle.trap_model.proofs.Known.{AreLinks, links_known}
 use Rattle.trap_model.proofs.Rows.{row_of}
 
 -- both places are below a number
@@ -72,8 +72,8 @@ arms_below trap junction [] t known = tt
 arms_below trap junction (links.Dock zone e s f ∷ ls) t known = arms_below trap junction ls t known.1
 arms_below trap junction (links.Arm s e other ∷ ls) t known =
     cons_below (place_count trap) (arm_at trap junction (links.Arm s e other)) (filter_map (arm_at trap junction) ls)
-      (cond_both (eqb junction other) (Some s) None (λ o. IfSome (option_map (λ segment. slot_end trap segment e) o) (λ a. a.slot < place_count trap)) (λ _. slot_below trap s e t known.0.0) (λ _. tt))
-      (arms_below trap junction ls t known.1)
+    (cond_both (eqb junction other) (Some s) None (λ o. IfSome (option_map (λ segment. slot_end trap segment e) o) (λ a. a.slot < place_count trap)) (λ _. slot_below trap s e t known.0.0) (λ _. tt))
+    (arms_below trap junction ls t known.1)
 
 cross_below : (n junction : ℕ) (from to : SlotEnd) → from.slot < n → to.slot < n → AllBelow n (cross_channels junction from to)
 cross_below n junction from to p q = cond_both (eqb from.slot to.slot) [] (cross junction from to ∷ []) (AllBelow n) (λ _. tt) (λ _. ((p, q), tt))

@@ -1,5 +1,5 @@
 -- The trap that parts make, or the first test that they fail.
-use Rattle.std.specs.Prelude.{◌≡◌, ◌≢◌, ℕ, ◌+◌, ◌<◌, ◌≤◌, ◌==◌, nat_lt, nat_le, Bool, true, false, not, ◌&&◌, ◌||◌, IsTrue, List, [], ◌∷◌, ◌++◌, length, find, All, AllPairs, Option, None, Some, IsSome, Result, Ok, Err, if◌then◌else◌}
+use Rattle.std.specs.Prelude.{◌≡◌, ◌≢◌, ℕ, ◌+◌, ◌<◌, ◌≤◌, ◌==◌, nat_lt, nat_le, Bool, true, false, not, ◌&&◌, IsTrue, List, [], ◌∷◌, ◌++◌, length, find, All, AllPairs, Option, None, Some, IsSome, Result, Ok, Err, if◌then◌else◌}
 use Rattle.std.specs.Option.{ok_or}
 use Rattle.std.specs.List.{filter_map, flat_map, list_any}
 use Rattle.std.specs.Str.{bytes_eq}
@@ -9,7 +9,6 @@ use Rattle.trap_model.specs.declared.parts.JoinPart.{JoinPart}
 use Rattle.trap_model.specs.declared.port.Port.{Port}
 use Rattle.trap_model.specs.declared.port.Port.TheVariants as ports
 use Rattle.trap_model.specs.declared.port.Link.{Link}
-use Rattle.trap_model.specs.declared.port.Link.TheVariants as links
 use Rattle.trap_model.specs.declared.fault.Counted.{Counted}
 use Rattle.trap_model.specs.declared.fault.Counted.TheVariants.{Zones, Segments, Junctions, Slots}
 use Rattle.trap_model.specs.declared.fault.TrapFault.{TrapFault}

@@ -1,5 +1,5 @@
 -- The channels of a trap in order, and the number of each.
-use Rattle.std.specs.Prelude.{ℕ, ◌+◌, ◌-◌, ◌<◌, ◌==◌, All, Bool, true, false, not, ◌&&◌, List, [], ◌∷◌, ◌++◌, length, find, Option, None, Some, slice_get, if◌then◌else◌}
+use Rattle.std.specs.Prelude.{ℕ, ◌+◌, ◌-◌, ◌<◌, ◌==◌, All, Bool, true, false, ◌&&◌, List, [], ◌∷◌, ◌++◌, length, find, Option, None, Some, slice_get, if◌then◌else◌}
 use Rattle.std.specs.Option.{option_map, option_and_then}
 use Rattle.std.specs.List.{flat_map, range_with_len, position_from}
 use Rattle.qc_base.specs.declared.ids.End.{End}

@@ -1,12 +1,11 @@
 -- What the joins of a trap join, whichever order they are written in.
 use Rattle.std.specs.Prelude.{ℕ, ◌+◌, ◌-◌, ◌==◌, Bool, true, false, ◌&&◌, List, [], ◌∷◌, Option, None, Some, slice_get, slice_index, length, if◌then◌else◌}
 use Rattle.std.specs.Option.{option_map, option_or, option_and_then, option_map_or}
-use Rattle.std.specs.List.{filter_map, flat_map, position_from}
+use Rattle.std.specs.List.{filter_map, position_from}
 use Rattle.std.specs.Str.{bytes_eq}
 use Rattle.qc_base.specs.declared.ids.End.{End}
 use Rattle.qc_base.specs.declared.ids.End.TheVariants.{A, B}
 use Rattle.trap_model.specs.declared.parts.SegmentPart.{SegmentPart}
-use Rattle.trap_model.specs.declared.parts.EndName.{EndName}
 use Rattle.trap_model.specs.declared.parts.JoinPart.{JoinPart}
 use Rattle.trap_model.specs.declared.port.Port.{Port}
 use Rattle.trap_model.specs.declared.port.Port.TheVariants as ports

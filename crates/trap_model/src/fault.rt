@@ -16,38 +16,20 @@ pub enum Counted {
 #[derive(Debug, Drop, PartialEq, Eq)]
 pub enum TrapFault {
     NoZone,
-    TooMany {
-        what: Counted,
-    },
+    TooMany { what: Counted },
     /// The first name that stands before.
-    Double {
-        name: Name,
-    },
-    Capacity {
-        zone: Name,
-    },
-    Length {
-        segment: Name,
-    },
-    Load {
-        segment: Name,
-    },
+    Double { name: Name },
+    Capacity { zone: Name },
+    Length { segment: Name },
+    Load { segment: Name },
     /// A name that isn't there, or an end that is missing or too many.
-    Unknown {
-        row: u64,
-    },
+    Unknown { row: u64 },
     /// A join of other sorts than a zone with a segment or a segment with a junction.
-    Pair {
-        row: u64,
-    },
+    Pair { row: u64 },
     /// An end that is joined before.
-    EndTaken {
-        row: u64,
-    },
+    EndTaken { row: u64 },
     /// Not 2 to 4 arms, or both ends of one segment.
-    Arms {
-        junction: Name,
-    },
+    Arms { junction: Name },
     NoMemory,
 }
 

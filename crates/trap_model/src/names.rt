@@ -67,7 +67,7 @@ impl TrapParts {
     }
 
     // How many names there are.
-    fn name_count(&self) -> usize
+    pub(crate) fn name_count(&self) -> usize
         requires { length (names_of (lists self.now)) ≤ 320 }
         ensures { result ≡ length (names_of (lists self.now)) }
     {
@@ -75,7 +75,7 @@ impl TrapParts {
     }
 
     // A name, of the zones first, then of the segments, then of the junctions.
-    fn name_at(&self, k: usize) -> &Name
+    pub(crate) fn name_at(&self, k: usize) -> &Name
         requires { k < length (names_of (lists self.now)) }
         ensures { result.now ≡ slice_index_or (names_of (lists self.now)) k result.now }
     {

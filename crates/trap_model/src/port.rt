@@ -55,7 +55,8 @@ impl Port {
     {
         match (self, other) {
             (Port::Zone(zone, e), Port::Zone(other, f)) => zone == other && same_end(*e, *f),
-            (Port::Segment(segment, e), Port::Segment(other, f)) => segment == other && same_end(*e, *f),
+            (Port::Segment(segment, e), Port::Segment(other, f)) => segment == other
+                && same_end(*e, *f),
             (Port::Junction(junction), Port::Junction(other)) => junction == other,
             _ => false,
         }
@@ -67,12 +68,14 @@ impl Port {
     {
         match (self, other) {
             (Port::Zone(zone, zone_end), Port::Segment(segment, segment_end))
-            | (Port::Segment(segment, segment_end), Port::Zone(zone, zone_end)) => Some(Link::Dock {
-                zone,
-                zone_end,
-                segment,
-                segment_end,
-            }),
+            | (Port::Segment(segment, segment_end), Port::Zone(zone, zone_end)) => Some(
+                Link::Dock {
+                    zone,
+                    zone_end,
+                    segment,
+                    segment_end,
+                },
+            ),
             (Port::Segment(segment, segment_end), Port::Junction(junction))
             | (Port::Junction(junction), Port::Segment(segment, segment_end)) => Some(Link::Arm {
                 segment,
@@ -95,7 +98,8 @@ impl Link {
                 zone_end,
                 segment,
                 segment_end,
-            } => end.is(&Port::Zone(*zone, *zone_end)) || end.is(&Port::Segment(*segment, *segment_end)),
+            } => end.is(&Port::Zone(*zone, *zone_end))
+                || end.is(&Port::Segment(*segment, *segment_end)),
             Link::Arm {
                 segment,
                 segment_end,

@@ -1,8 +1,5 @@
-use Rattle.std.proofs.Common.{arith, refl, ap, ◌≡◌, ℕ, ◌+◌, ◌-◌, ◌<◌, ◌≤◌, ◌^◌, slice_index}
-use Rattle.qc_base.specs.declared.ids.End.TheVariants.{B}
-use Rattle.trap_model.specs.declared.port.SlotEnd.{SlotEnd}
+use Rattle.std.proofs.Common.{arith, refl}
 use Rattle.trap_model.specs.Trap.{lists}
-use Rattle.trap_model.specs.Joins.{slot_end, slots_of, first_slot}
 use Rattle.trap_model.proofs.Rows.{length-firsts_from, slots_read, row_of}
 use Rattle.trap_model.proofs.parts.TrapParts.slot_end.Goals as goal
 

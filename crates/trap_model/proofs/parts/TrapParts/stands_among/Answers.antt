@@ -1,4 +1,4 @@
-use Rattle.std.proofs.Common.{sym, ◌∙◌, ap, arith, ◌≡◌, true}
+use Rattle.std.proofs.Common.{sym, ◌∙◌, arith, ◌≡◌, true}
 use Rattle.std.specs.Str.{bytes_eq}
 use Rattle.trap_model.specs.Trap.{lists, names_of}
 use Rattle.trap_model.proofs.Doubles.{any_among}

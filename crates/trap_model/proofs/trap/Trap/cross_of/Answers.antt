@@ -1,4 +1,4 @@
-use Rattle.std.proofs.Common.{arith, sym, ◌∙◌, ◌≡◌, ◌≤◌, length}
+use Rattle.std.proofs.Common.{arith, sym, ◌∙◌, ◌≤◌, length}
 use Rattle.trap_model.specs.Trap.{lists}
 use Rattle.trap_model.specs.Channels.{is_cross}
 use Rattle.trap_model.proofs.Count.{few_channels}

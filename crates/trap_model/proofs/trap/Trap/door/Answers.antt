@@ -1,4 +1,4 @@
-use Rattle.std.proofs.Common.{arith, ap, ◌∙◌, length, ◌≡◌, ◌<◌}
+use Rattle.std.proofs.Common.{arith, ap, ◌∙◌, length}
 use Rattle.trap_model.specs.declared.tables.Doors.{Doors}
 use Rattle.trap_model.specs.Trap.{lists}
 use Rattle.trap_model.specs.Channels.{channels_of}

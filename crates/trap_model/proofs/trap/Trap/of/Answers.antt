@@ -1,4 +1,4 @@
-use Rattle.std.proofs.Common.{arith, ap, ◌∙◌, length, sym, ◌≡◌, ◌+◌}
+use Rattle.std.proofs.Common.{arith, ap, ◌∙◌, length, ◌≡◌, ◌+◌}
 use Rattle.trap_model.specs.Trap.{lists, place_count}
 use Rattle.trap_model.proofs.Count.{few_channels}
 use Rattle.trap_model.proofs.Slots.{length-slots_from}

@@ -1,4 +1,4 @@
-use Rattle.std.proofs.Common.{arith, sym, ◌∙◌, ap}
+use Rattle.std.proofs.Common.{arith, sym, ◌∙◌}
 use Rattle.trap_model.specs.Trap.{lists}
 use Rattle.trap_model.proofs.PlaceTexts.{zone_found, named_is, slot_answer}
 use Rattle.trap_model.proofs.trap.Trap.place_named.Goals as goal
@@ -17,4 +17,4 @@ returns-in-Some c =
 pub returns-in-None : goal.returns-in-None
 returns-in-None c =
     rw (← c.self.view_is)
-      (slot_answer (lists c.self.inside.parts) c.args.text.now c.slot_named.result c.self.invariant.sound (sym c.zone_named.ensures ∙ c.in-None.is) (rw (← c.self.view_is) at c.slot_named.ensures))
+    (slot_answer (lists c.self.inside.parts) c.args.text.now c.slot_named.result c.self.invariant.sound (sym c.zone_named.ensures ∙ c.in-None.is) (rw (← c.self.view_is) at c.slot_named.ensures))

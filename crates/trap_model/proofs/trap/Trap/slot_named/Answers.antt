@@ -2,10 +2,10 @@ use Rattle.std.proofs.Common.{arith, sym, ap, ◌∙◌, ◌+◌, length}
 use Rattle.std.proofs.lemmas.List.{take_rest}
 use Rattle.std.specs.Str.{bytes_eq}
 use Rattle.trap_model.specs.declared.parts.SegmentPart.{SegmentPart}
-use Rattle.trap_model.specs.Trap.{lists, place_count}
-use Rattle.trap_model.specs.Joins.{firsts_from, first_slot}
+use Rattle.trap_model.specs.Trap.{lists}
+use Rattle.trap_model.specs.Joins.{first_slot}
 use Rattle.trap_model.proofs.Known.{position_at}
-use Rattle.trap_model.proofs.Rows.{length-firsts_from, row_of}
+use Rattle.trap_model.proofs.Rows.{length-firsts_from}
 use Rattle.trap_model.proofs.PlaceTexts.{no_slot_without_dot, no_slot_without_segment, no_slot_without_number, slot_found, slot_text_small, first_read}
 use Rattle.trap_model.proofs.trap.Trap.slot_named.Goals as goal
 
@@ -26,7 +26,7 @@ pub returns-in_default-slot_written : goal.returns-in_default-slot_written
 returns-in_default-slot_written c =
     let dot = c.in-Some.ensures in
     rw (← c.self.view_is) (no_slot_without_number (lists c.self.inside.parts) c.args.text.now c.in-Some.dot c.in-Some-segment_named.segment c.index.result.now c.self.invariant.sound dot.0 dot.1 dot.2 (sym c.segment_named.ensures ∙ c.in-Some-segment_named.is) c.index.ensures
-      (rw take_rest at c.in_default-slot_written.ensures))
+    (rw take_rest at c.in_default-slot_written.ensures))
 
 pub index-requires-2 : goal.index-requires-2
 index-requires-2 c =
@@ -54,4 +54,4 @@ returns c =
     let inside = position_at (λ (segment : SegmentPart). bytes_eq segment.name _) c.self.inside.parts.segments.items c.in-Some-segment_named.segment found in
     let first = first_read trap c.self.inside.firsts.items c.in-Some-segment_named.segment c.index-2.result.now c.self.invariant.of_segments inside c.index-2.ensures in
     rw (← c.self.view_is, first)
-      (slot_found trap c.args.text.now c.in-Some.dot c.in-Some-segment_named.segment c.in-Some-slot_written.index c.index.result.now c.self.invariant.sound dot.0 dot.1 found c.index.ensures number.0 (rw take_rest at number.1))
+    (slot_found trap c.args.text.now c.in-Some.dot c.in-Some-segment_named.segment c.in-Some-slot_written.index c.index.result.now c.self.invariant.sound dot.0 dot.1 found c.index.ensures number.0 (rw take_rest at number.1))

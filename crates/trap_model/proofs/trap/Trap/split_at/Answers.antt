@@ -1,4 +1,4 @@
-use Rattle.std.proofs.Common.{sym, ap, ◌∙◌, ◌≡◌, Option, None}
+use Rattle.std.proofs.Common.{sym, ap, ◌∙◌, ◌≡◌, None}
 use Rattle.std.specs.Option.{option_map}
 use Rattle.trap_model.specs.Channels.{split, is_split, split_channel}
 use Rattle.trap_model.proofs.Docks.{split_leads}

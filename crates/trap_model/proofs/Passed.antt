@@ -1,7 +1,6 @@
 -- What the tests of build say where they pass.
-use Rattle.std.proofs.Common.{◌≡◌, ◌≢◌, ℕ, ◌+◌, ◌<◌, ◌≤◌, Bool, true, false, not, List, [], ◌∷◌, ◌++◌, length, get_or, find, Option, None, Some, Result, Ok, Err, zero, suc, refl, sym, ap, ◌∙◌, arith, leb, cond, inl, inr}
+use Rattle.std.proofs.Common.{◌≡◌, ℕ, ◌+◌, ◌<◌, ◌≤◌, Bool, true, false, not, List, [], ◌∷◌, length, get_or, find, Option, None, Some, Result, Ok, Err, zero, suc, refl, sym, ◌∙◌, arith, leb, inl, inr}
 use Rattle.std.specs.List.{All}
-use Rattle.std.specs.Option.{ok_or}
 use Rattle.std.proofs.lemmas.Bool.{cases_Bool, cond-true, cond-false, and_parts, not-false, leb-true}
 use Rattle.std.proofs.lemmas.Option.{none-some}
 use Rattle.trap_model.specs.declared.parts.ZonePart.{ZonePart}
@@ -9,7 +8,7 @@ use Rattle.trap_model.specs.declared.parts.SegmentPart.{SegmentPart}
 use Rattle.trap_model.specs.declared.fault.TrapFault.{TrapFault}
 use Rattle.trap_model.specs.declared.fault.TrapFault.TheVariants.{Capacity, Length, Load, Arms}
 use Rattle.trap_model.specs.declared.port.Link.{Link}
-use Rattle.trap_model.specs.Build.{◌>>◌, ◌>>=◌, unless, none_of, few, is_between, hold_ions, are_measured, are_armed, are_arms, segments_at}
+use Rattle.trap_model.specs.Build.{◌>>◌, unless, none_of, is_between, hold_ions, are_measured, are_armed, are_arms, segments_at}
 
 pub err_ok : {X : Type 0} (fault : TrapFault) (x : X) → Err fault ≡ Ok x → ⊥
 err_ok fault x e = cc
@@ -35,8 +34,8 @@ between low high n e =
 find_passes : {X : Type 0} (p : X → Bool) (x : X) (xs : List X) → find p (x ∷ xs) ≡ None → (p x ≡ false) × (find p xs ≡ None)
 find_passes p x xs e =
     elim (cases_Bool (p x)) [
-      inl stands ↦ absurd (none-some x (sym (sym (cond-true (p x) (Some x) (find p xs) stands) ∙ e)))
-    | inr none ↦ (none, sym (cond-false (p x) (Some x) (find p xs) none) ∙ e)
+      | inl stands ↦ absurd (none-some x (sym (sym (cond-true (p x) (Some x) (find p xs) stands) ∙ e)))
+      | inr none ↦ (none, sym (cond-false (p x) (Some x) (find p xs) none) ∙ e)
     ]
 
 pub find_none : {X : Type 0} (p : X → Bool) (xs : List X) → find p xs ≡ None → (k : ℕ) (d : X) → k < length xs → p (get_or xs k d) ≡ false
