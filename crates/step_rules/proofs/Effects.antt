@@ -84,7 +84,7 @@ unless_same true way channel e = absurd cc
 unless_same false way channel e = e
 
 arm_is : (trap : Lists) (crossed slot : ℕ) (arm : SlotEnd) → arm_of trap crossed slot ≡ Some arm → slot ≡ arm.slot
-arm_is trap crossed slot arm e = sym (eqb-true arm.slot slot (found (λ (a : SlotEnd). a.slot == slot) (arms_of trap crossed) arm e))
+arm_is trap crossed slot arm e = eqb-true slot arm.slot (found (λ (a : SlotEnd). slot == a.slot) (arms_of trap crossed) arm e)
 
 pub crossing_ends : (trap : Lists) (crossed from to : ℕ) (channel : Channel) → cross_channel trap crossed from to ≡ Some channel → (from ≡ channel.from.0) × (to ≡ channel.to.0)
 crossing_ends trap crossed from to channel e =

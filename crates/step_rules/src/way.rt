@@ -3,6 +3,7 @@
 ghost use Rattle.std.specs.Prelude.{◌≡◌, ◌<◌, IfSome};
 ghost use Rattle.trap_model.specs.Trap.{place_count};
 ghost use Rattle.trap_model.specs.Channels.{channel_at};
+ghost use Rattle.trap_model.specs.Build.{IsTrap};
 ghost use Rattle.step_rules.specs.Way.{channel_for, transfer, IsWithin};
 
 use crate::action::Action;
@@ -13,6 +14,7 @@ use trap_model::{Channel, Trap};
 fn numbered(trap: &Trap, number: Option<u32>) -> Option<Channel>
     ensures channel { result ≡ channel_at trap.now number }
     ensures within { IfSome result (IsWithin trap.now) }
+    ensures trap { IsTrap trap.now }
 {
     let channels = trap.channels();
     match number {
@@ -25,6 +27,7 @@ fn numbered(trap: &Trap, number: Option<u32>) -> Option<Channel>
 pub(crate) fn channel_for(trap: &Trap, action: &Action) -> Option<Channel>
     ensures channel { result ≡ channel_for trap.now action.now }
     ensures within { IfSome result (IsWithin trap.now) }
+    ensures trap { IsTrap trap.now }
 {
     match action {
         Action::Split { zone, end, .. } => numbered(trap, trap.split_at(*zone, *end)),
@@ -33,7 +36,7 @@ pub(crate) fn channel_for(trap: &Trap, action: &Action) -> Option<Channel>
             numbered(trap, trap.cross_of(*junction, *from, *to))
         }
         Action::Merge { zone, end } => numbered(trap, trap.merge_at(*zone, *end)),
-        Action::Swap { .. } | Action::Op { .. } => None,
+        Action::Swap { .. } | Action::Op { .. } => numbered(trap, None),
     }
 }
 

@@ -3,6 +3,7 @@ use Rattle.std.specs.Prelude.{All, Ok, option_map}
 use Rattle.qc_base.specs.declared.ids.Qubit.{Qubit}
 use Rattle.circuit_core.specs.Circuit.{qubit_count}
 use Rattle.trap_model.specs.Trap.{limit_of}
+use Rattle.trap_model.specs.declared.parts.ZonePart.{ZonePart}
 use Rattle.step_rules.specs.declared.placement.GivenFault.TheVariants.{Missing}
 use Rattle.step_rules.specs.Placement.{reading_order, placement_of, unless_fault}
 use Rattle.step_rules.proofs.Placements.{limit_read, all_in_zone, marked_zone, clean_zone, answer_full, answer_repeated, decided, is_placement, is_numbered}
@@ -30,7 +31,7 @@ returns-then-items-zones-clause-answer c =
     let limit : limit_of c.args.trap.now k ≡ c.index-zones-zone.result.capacity = limit_read c.args.trap.now c.zones-zones.result.now k c.index-zones-zone.result c.zones-zones.ensures.zones c.index-zones-zone.is within in
     answer_full c.args.trap.now c.args.circuit.now lists c.args.lists.items k list c.deref-list-items.ensures.value c.loop-zone-test.true read
     (c.in_default.ensures.repeated (reading_order (take k lists)) c.loop-zone.invariant.marked)
-    (omega (arith, limit, c.if-items-zones.true, ap length again)) c.loop-zone.invariant.so_far
+    (omega (arith, limit, c.if-items-zones.true, ap length again, ap (λ (z : ZonePart). z.capacity) c.index-zones-zone.is)) c.loop-zone.invariant.so_far
 
 pub loop-zone-preserved : goal.loop-zone-preserved
 loop-zone-preserved c =
@@ -46,7 +47,7 @@ loop-zone-preserved c =
       len = c.mark.ensures.len ∙ c.loop-zone.invariant.len;
       marked = marked_zone c.mark.new.flags.items lists k list c.loop-zone-test.true read (c.in_default.ensures.marked before c.loop-zone.invariant.marked refl);
       so_far = c.loop-zone.invariant.so_far
-        ∙ clean_zone c.args.trap.now lists k list c.loop-zone-test.true read (c.in_default.ensures.repeated before c.loop-zone.invariant.marked) (omega (arith, limit, c.if-items-zones.false, ap length again));
+        ∙ clean_zone c.args.trap.now lists k list c.loop-zone-test.true read (c.in_default.ensures.repeated before c.loop-zone.invariant.marked) (omega (arith, limit, c.if-items-zones.false, ap length again, ap (λ (z : ZonePart). z.capacity) c.index-zones-zone.is));
     }
 
 pub invariant_of-result : goal.invariant_of-result
