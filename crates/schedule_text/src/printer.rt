@@ -1,6 +1,6 @@
 //! The text of a schedule.
 
-ghost use Rattle.std.specs.Prelude.{◌≡◌, ℕ, ◌+◌, ◌++◌, ◌∷◌, [], List, OnOk, IfOk, decimal, codes};
+ghost use Rattle.std.specs.Prelude.{◌≡◌, ℕ, ◌+◌, ◌<◌, drop, length, ◌++◌, ◌∷◌, [], List, OnOk, IfOk, decimal, codes};
 ghost use Rattle.std.specs.List.{flat_map};
 ghost use Rattle.step_rules.specs.Setting.{setting_of, qubits_of};
 ghost use Rattle.schedule_text.specs.Text.{at, label, op_text, place_line, place_lines, op_line, end_text, zone_end, two_places, split_line, move_line, cross_line, merge_line, swap_line, performed_line, action_line, step_lines, schedule_text, ion_words};
@@ -9,7 +9,7 @@ use circuit_core::{Circuit, Op};
 use itoa::Buffer;
 use qc_base::{End, JunctionId, NoMemory, OpId, PlaceId, Qubit};
 use std::alloc::Global;
-use step_rules::{Action, Placement, Schedule, Step};
+use step_rules::{Action, Placement, Qubits, Schedule, Step};
 use trap_model::{Trap, ZonePart};
 
 fn push_number(out: &mut Vec<u8>, number: u64) -> Result<(), NoMemory>
@@ -81,6 +81,39 @@ fn push_labels(out: &mut Vec<u8>, circuit: &Circuit, list: &[Qubit]) -> Result<(
     Ok(())
 }
 
+// The line of one zone, where it has a list.
+fn push_place_at(
+    out: &mut Vec<u8>,
+    circuit: &Circuit,
+    zones: &[ZonePart],
+    lists: &[Qubits],
+    k: usize,
+) -> Result<(), NoMemory>
+    requires { k < length zones.now }
+    ensures { OnOk result (out.new.items ++ place_lines circuit.now (drop (k + 1) zones.now) (drop (k + 1) lists.now)
+        ≡ out.old.items ++ place_lines circuit.now (drop k zones.now) (drop k lists.now)) }
+{
+    if k >= lists.len() {
+        return Ok(());
+    }
+    push_place(out, circuit, &zones[k], lists[k].items())?;
+    Ok(())
+}
+
+fn push_place_lines(
+    out: &mut Vec<u8>,
+    circuit: &Circuit,
+    zones: &[ZonePart],
+    lists: &[Qubits],
+) -> Result<(), NoMemory>
+    ensures { OnOk result (out.new.items ≡ out.old.items ++ place_lines circuit.now zones.now lists.now) }
+{
+    for k in 0..zones.len() {
+        push_place_at(out, circuit, zones, lists, k)?;
+    }
+    Ok(())
+}
+
 fn push_places(
     out: &mut Vec<u8>,
     circuit: &Circuit,
@@ -89,13 +122,7 @@ fn push_places(
 ) -> Result<(), NoMemory>
     ensures { OnOk result (out.new.items ≡ out.old.items ++ place_lines circuit.now trap.now.zones placement.now) }
 {
-    let lists = placement.lists();
-    for (k, zone) in trap.zones().iter().enumerate() {
-        if k < lists.len() {
-            push_place(out, circuit, zone, lists[k].items())?;
-        }
-    }
-    Ok(())
+    push_place_lines(out, circuit, trap.zones(), placement.lists())
 }
 
 fn push_ions(out: &mut Vec<u8>, placement: &Placement, op: &Op) -> Result<(), NoMemory>

@@ -1,6 +1,0 @@
-use Rattle.std.proofs.Common.{◌≡◌, ◌++◌, drop}
-use Rattle.schedule_text.specs.Text.{place_lines}
-use Rattle.schedule_text.proofs.printer.push_places.Given as goal
-
-abbrev pub invariant-loop-k : goal.invariant-loop-k
-invariant-loop-k l = l.out.items ++ place_lines l.circuit (drop l.k l.trap.zones) (drop l.k l.placement) ≡ l.fn.out.items ++ place_lines l.circuit l.trap.zones l.placement
