@@ -1,10 +1,13 @@
 -- What a run comes to, and why it answers as it does.
-use Rattle.std.proofs.Common.{◌≡◌, ℕ, List, Option, Some, None, Result, Ok, Err, refl, sym, ap, ◌∙◌, subst, inl, inr, ◌⊎◌}
+use Rattle.std.proofs.Common.{◌≡◌, ℕ, ◌≤◌, false, arith, List, Option, Some, None, Result, Ok, Err, refl, sym, ap, ◌∙◌, subst, inl, inr, ◌⊎◌}
 use Rattle.qc_base.specs.Causes.{Rose}
 use Rattle.qc_base.specs.Shelf.{Contents}
-use Rattle.circuit_core.specs.Circuit.{Parts}
+use Rattle.std.specs.Prelude.{nat_le}
+use Rattle.std.proofs.lemmas.Bool.{le-leb, lt-leb}
+use Rattle.circuit_core.specs.Circuit.{Parts, qubit_count}
 use Rattle.trap_model.specs.Trap.{Lists}
-use Rattle.step_rules.specs.Setting.{Setting}
+use Rattle.step_rules.specs.Setting.{Setting, setting_of}
+use Rattle.qccd.specs.Filling.{declared_qubits, filled, room}
 use Rattle.qccd.specs.declared.answer.File.{File}
 use Rattle.qccd.specs.declared.answer.File.TheVariants.{Circuit, Trap}
 use Rattle.qccd.specs.declared.answer.Answer.{Answer}
@@ -36,6 +39,15 @@ at_placement found words asked circuit trap outcome request is also placing = re
   is = sym request;
   goes_on = record { given = Ok circuit; is = is; goes_on = record { given = Ok trap; is = also; goes_on = placing } };
 }
+
+-- where there is room, and where there isn't
+pub placed_is : (circuit : Parts) (trap : Lists) → qubit_count circuit ≤ room trap.zones → Ok (setting_of trap circuit (filled trap.zones (declared_qubits circuit))) ≡ placed circuit trap
+placed_is circuit trap fits = rw (le-leb _ _ fits) refl
+
+pub unplaced : (circuit : Parts) (trap : Lists) → (qubit_count circuit ≤ room trap.zones → ⊥) → Err answers.Unbuilt ≡ placed circuit trap
+unplaced circuit trap full =
+    let no : nat_le (qubit_count circuit) (room trap.zones) ≡ false = lt-leb _ _ (omega arith) in
+    rw no refl
 
 -- a file without content cannot be read
 missing_circuit : (words : List (List ℕ)) (contents : Contents) (asked : Files) → files_of words ≡ Ok asked → Prepares (all_but Circuit contents) words (Err (answers.ReadFault Circuit))
