@@ -94,9 +94,9 @@ either (Some y) b x e = inl e
 links_behind : (trap : Lists) (zone : ℕ) (end : End) (ls : List Link) (s : SlotEnd) → IsTrap trap → AreLinks trap ls → first_of (docked_by trap zone end) ls ≡ Some s → length trap.zones ≤ s.slot
 links_behind trap zone end [] s sound known e = absurd cc
 links_behind trap zone end (link ∷ ls) s sound known e = elim (either (docked_by trap zone end link) (first_of (docked_by trap zone end) ls) s e) [
-    | inl here ↦ slot_behind trap zone end link s sound known.0 here
-    | inr there ↦ links_behind trap zone end ls s sound known.1 there
-  ]
+  | inl here ↦ slot_behind trap zone end link s sound known.0 here
+  | inr there ↦ links_behind trap zone end ls s sound known.1 there
+]
 
 mapped : {X Y : Type 0} (f : X → Y) (o : Option X) (y : Y) → option_map f o ≡ Some y → (x : X) × (o ≡ Some x) × (f x ≡ y)
 mapped f None y e = absurd cc
@@ -160,7 +160,7 @@ cross_pass trap config junction from to channel e =
     let source : List Ion = list_at config channel.from.0 in
     let target : List Ion = list_at config channel.to.0 in
     let all = five_passed (is_junction trap junction && (is_slot trap from && is_slot trap to)) true (not (is_empty source)) (is_empty target) (nat_le (length source) (limit_of trap channel.to.0))
-      rules.NoPlace rules.NoJoin rules.Empty rules.Occupied rules.Load e in
+    rules.NoPlace rules.NoJoin rules.Empty rules.Occupied rules.Load e in
     let some : 1 ≤ length (list_at config channel.from.0) = some_there source all.2 in
     let none : length (list_at config channel.to.0) ≡ 0 = none_there target all.3 in
     let load : length (list_at config channel.from.0) ≤ limit_of trap channel.to.0 = leb-true (length (list_at config channel.from.0)) (limit_of trap channel.to.0) all.4 in
@@ -224,13 +224,13 @@ within_passing trap config channel count within in_from in_to may place h =
           ap (list_at (after_transfer config (transfer channel count))) same ∙ get_or-set_other (slice_set config channel.from.0 gone) channel.to.0 channel.from.0 come [] may.apart ∙ get_or-set_same config channel.from.0 gone [] in_from in
           omega (arith, ap length at, length-left channel.from_end count source, within place h, ap (λ (p : ℕ). length (list_at config p)) same))
       | inr other ↦ elim (cases_eq place channel.to.0) [
-          | inl same ↦ (let at : list_at (after_transfer config (transfer channel count)) place ≡ come =
-              ap (list_at (after_transfer config (transfer channel count))) same ∙ get_or-set_same (slice_set config channel.from.0 gone) channel.to.0 come [] (omega (arith, in_to, length-set config channel.from.0 gone)) in
-              omega (arith, ap length at, length-joined channel.to_end (leaving channel.from_end count source) (list_at config channel.to.0), length-leaving channel.from_end count source may.enough, may.fits, ap (limit_of trap) same))
-          | inr apart ↦ (let at : list_at (after_transfer config (transfer channel count)) place ≡ list_at config place =
-              list_at-after_transfer config (transfer channel count) place (λ e. other (sym e)) (λ e. apart (sym e)) in
-              omega (arith, ap length at, within place h))
-        ]
+        | inl same ↦ (let at : list_at (after_transfer config (transfer channel count)) place ≡ come =
+            ap (list_at (after_transfer config (transfer channel count))) same ∙ get_or-set_same (slice_set config channel.from.0 gone) channel.to.0 come [] (omega (arith, in_to, length-set config channel.from.0 gone)) in
+            omega (arith, ap length at, length-joined channel.to_end (leaving channel.from_end count source) (list_at config channel.to.0), length-leaving channel.from_end count source may.enough, may.fits, ap (limit_of trap) same))
+        | inr apart ↦ (let at : list_at (after_transfer config (transfer channel count)) place ≡ list_at config place =
+            list_at-after_transfer config (transfer channel count) place (λ e. other (sym e)) (λ e. apart (sym e)) in
+            omega (arith, ap length at, within place h))
+      ]
     ]
 
 within_swap : (trap : Lists) (config : List (List Ion)) (zone index : ℕ) → AreWithin trap config → zone < length config → AreWithin trap (slice_set config zone (swap (list_at config zone) index (index + 1)))
@@ -284,9 +284,9 @@ slot_small trap (Some s) sound = load_small trap trap.segments s.segment sound.l
 
 pub any_limit_small : (trap : Lists) (place : ℕ) → IsTrap trap → limit_of trap place ≤ 32
 any_limit_small trap place sound = elim (cases_lt place (length trap.zones)) [
-    | inl zone ↦ limit_small trap place sound zone
-    | inr slot ↦ omega (arith, slot_limit trap place slot, slot_small trap (slot_at trap place) sound)
-  ]
+  | inl zone ↦ limit_small trap place sound zone
+  | inr slot ↦ omega (arith, slot_limit trap place slot, slot_small trap (slot_at trap place) sound)
+]
 
 pub record MayPerform (rows : List IonRow) (t : Transfer) : Type 0 where
   pub from : t.from.0 < length rows

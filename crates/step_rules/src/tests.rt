@@ -270,6 +270,33 @@ fn act(
     Ok(())
 }
 
+// Does the actions, and compares their answers.
+fn act_all(
+    rt: &impl Abort,
+    trap: &Trap,
+    circuit: &Circuit,
+    placement: &Placement,
+    config: &mut Config,
+    actions: &[(Action, Result<(), Rule>)],
+)
+    requires { IsConfigOf trap.now config.old }
+    ensures { IsConfigOf trap.now config.new }
+{
+    for (action, answer) in actions {
+        assert!(rt; act(trap, circuit, placement, config, *action) == *answer);
+    }
+}
+
+// Compares the lists of all places.
+fn compare(rt: &impl Abort, trap: &Trap, config: &Config, places: &[&[u32]])
+    requires { IsConfigOf trap.now config.now }
+{
+    assert!(rt; trap.places() as usize == places.len());
+    for place in 0..trap.places() {
+        assert!(rt; reads(config.list(PlaceId(place)), places[place as usize]));
+    }
+}
+
 // Plays actions, each with its answer, from the qubits of A and of B, and compares the lists of all places after them.
 fn plays(
     rt: &impl Abort,
@@ -283,13 +310,8 @@ fn plays(
     let circuit = circuit_of(alloc, 4)?;
     let placement = place(rt, alloc, &trap, &circuit, zones)?;
     let mut config = Config::start(alloc, &trap, &placement)?;
-    for (action, answer) in actions {
-        assert!(rt; act(&trap, &circuit, &placement, &mut config, *action) == *answer);
-    }
-    assert!(rt; trap.places() as usize == places.len());
-    for (place, ions) in places.iter().enumerate() {
-        assert!(rt; reads(config.list(PlaceId(place as u32)), ions));
-    }
+    act_all(rt, &trap, &circuit, &placement, &mut config, actions);
+    compare(rt, &trap, &config, places);
     Ok(())
 }
 
@@ -320,19 +342,40 @@ fn splits_and_merges(rt: HostRuntime) -> Result<(), Fail> {
         (cross(3, 2), Ok(())),
         (merge(0, End::B), Ok(())),
     ];
-    plays(&rt, alloc, &at_a, (&[0, 1], &[2, 3]), &one, &[&[0, 1, 2], &[3], &[], &[]])?;
+    plays(
+        &rt,
+        alloc,
+        &at_a,
+        (&[0, 1], &[2, 3]),
+        &one,
+        &[&[0, 1, 2], &[3], &[], &[]],
+    )?;
     let two = [
         (split(1, End::A, 2), Ok(())),
         (cross(3, 2), Ok(())),
         (merge(0, End::B), Err(Rule::Full)),
     ];
-    plays(&rt, alloc, &at_a, (&[0, 1], &[2, 3]), &two, &[&[0, 1], &[], &[2, 3], &[]])?;
+    plays(
+        &rt,
+        alloc,
+        &at_a,
+        (&[0, 1], &[2, 3]),
+        &two,
+        &[&[0, 1], &[], &[2, 3], &[]],
+    )?;
     let whole = [
         (split(0, End::B, 0), Err(Rule::Index)),
         (split(0, End::B, 3), Err(Rule::Index)),
         (split(0, End::B, 2), Ok(())),
     ];
-    plays(&rt, alloc, &at_a, (&[0, 1], &[2, 3]), &whole, &[&[], &[2, 3], &[0, 1], &[]])
+    plays(
+        &rt,
+        alloc,
+        &at_a,
+        (&[0, 1], &[2, 3]),
+        &whole,
+        &[&[], &[2, 3], &[0, 1], &[]],
+    )
 }
 
 #[test]
@@ -356,7 +399,14 @@ fn broken_rules(rt: HostRuntime) -> Result<(), Fail> {
         (op(0, 0), Ok(())),
     ];
     let sketch = drawn(4, End::A, 1, (1, 1));
-    plays(&rt, alloc, &sketch, (&[0, 1], &[2, 3]), &actions, &[&[0, 1], &[3, 2], &[], &[]])
+    plays(
+        &rt,
+        alloc,
+        &sketch,
+        (&[0, 1], &[2, 3]),
+        &actions,
+        &[&[0, 1], &[3, 2], &[], &[]],
+    )
 }
 
 #[test]
@@ -372,10 +422,27 @@ fn slots_in_a_row(rt: HostRuntime) -> Result<(), Fail> {
         (goes(2, 3), Ok(())),
     ];
     let row = drawn(4, End::A, 3, (2, 2));
-    plays(&rt, alloc, &row, (&[0, 1], &[2, 3]), &moves, &[&[], &[2, 3], &[], &[0], &[1], &[]])?;
-    let load = [(split(0, End::B, 2), Ok(())), (cross(2, 3), Err(Rule::Load))];
+    plays(
+        &rt,
+        alloc,
+        &row,
+        (&[0, 1], &[2, 3]),
+        &moves,
+        &[&[], &[2, 3], &[], &[0], &[1], &[]],
+    )?;
+    let load = [
+        (split(0, End::B, 2), Ok(())),
+        (cross(2, 3), Err(Rule::Load)),
+    ];
     let narrow = drawn(4, End::A, 1, (2, 1));
-    plays(&rt, alloc, &narrow, (&[0, 1], &[2, 3]), &load, &[&[], &[2, 3], &[0, 1], &[]])
+    plays(
+        &rt,
+        alloc,
+        &narrow,
+        (&[0, 1], &[2, 3]),
+        &load,
+        &[&[], &[2, 3], &[0, 1], &[]],
+    )
 }
 
 #[test]
@@ -383,8 +450,12 @@ fn lists_that_are_no_placement(rt: HostRuntime) -> Result<(), Fail> {
     let alloc = rt.alloc();
     let trap = trap_of(&rt, alloc, &drawn(3, End::A, 1, (1, 1)))?;
     let circuit = circuit_of(alloc, 4)?;
-    let repeated = |number| GivenFault::Repeated { qubit: Qubit(number) };
-    let missing = |number| GivenFault::Missing { qubit: Qubit(number) };
+    let repeated = |number| GivenFault::Repeated {
+        qubit: Qubit(number),
+    };
+    let missing = |number| GivenFault::Missing {
+        qubit: Qubit(number),
+    };
     let full = GivenFault::Full { zone: PlaceId(0) };
     let rows: [((&[u32], &[u32]), GivenFault); 6] = [
         ((&[0, 1, 1], &[2, 3]), repeated(1)),
