@@ -1,6 +1,6 @@
 -- What an action does to the places, and that actions on different spots may change places.
-use Rattle.std.proofs.Common.{◌≡◌, ◌≢◌, ℕ, ◌+◌, ◌<◌, List, [], ◌∷◌, length, get_or, set, Bool, true, false, cond, Some, None, refl, sym, ap, subst, ◌∙◌, inl, inr, arith}
-use Rattle.std.specs.Prelude.{All, AllPairs, Contains, IsPermutation, Option, find, swap, slice_set, ◌==◌, option_map, option_and_then}
+use Rattle.std.proofs.Common.{◌≡◌, ◌≢◌, ℕ, ◌+◌, List, [], ◌∷◌, get_or, Bool, true, false, cond, Some, None, refl, sym, ap, subst, ◌∙◌, inl, inr, arith}
+use Rattle.std.specs.Prelude.{AllPairs, Contains, IsPermutation, Option, find, swap, slice_set, ◌==◌, option_map, option_and_then}
 use Rattle.std.specs.Option.{option_map_or}
 use Rattle.std.proofs.lemmas.Bool.{eqb-true, cases_order}
 use Rattle.std.proofs.lemmas.Option.{same_Some}
@@ -22,7 +22,7 @@ use Rattle.ion_chain.proofs.Transfers.{list_at-after_transfer, after_transfer-af
 use Rattle.step_rules.specs.declared.action.Action.{Action}
 use Rattle.step_rules.specs.declared.action.Action.TheVariants as actions
 use Rattle.step_rules.specs.Way.{channel_for, passing, transfer}
-use Rattle.step_rules.specs.Steps.{Spot, place, junction, docked, footprint, AreApart, after, after_passing, after_step}
+use Rattle.step_rules.specs.Steps.{Spot, place, junction, footprint, AreApart, after, after_passing, after_step}
 use Rattle.step_rules.proofs.Orders.{any_order}
 
 -- ---- the ends of an action's channel are in its footprint

@@ -1,8 +1,7 @@
 -- An action that passes its tests: its ions have a way and room, and no place comes above its limit.
-use Rattle.std.proofs.Common.{◌≡◌, ◌≢◌, ℕ, zero, suc, ◌+◌, ◌-◌, ◌<◌, ◌≤◌, List, [], ◌∷◌, length, get_or, reverse, take, drop, Bool, true, false, not, ◌&&◌, cond, Some, None, refl, sym, ap, subst, ◌∙◌, inl, inr, arith, get_or-set_same, get_or-set_other, length-append, slice_index}
-use Rattle.std.specs.Prelude.{◌⊎◌, All, Option, map, slice_index_or, swap, slice_set, slice_get, nat_le, nat_lt, is_some, option_map, ◌==◌}
+use Rattle.std.proofs.Common.{◌≡◌, ◌≢◌, ℕ, zero, suc, ◌+◌, ◌<◌, ◌≤◌, List, [], ◌∷◌, length, Bool, true, false, not, ◌&&◌, cond, Some, None, refl, sym, ap, subst, ◌∙◌, inl, inr, arith, get_or-set_same, get_or-set_other, length-append, slice_index}
+use Rattle.std.specs.Prelude.{◌⊎◌, All, Option, map, slice_index_or, swap, slice_set, slice_get, nat_le, nat_lt, option_map, ◌==◌}
 use Rattle.std.specs.Option.{option_map_or, option_or}
-use Rattle.std.specs.List.{filter_map}
 use Rattle.std.proofs.lemmas.Bool.{cases_lt, leb-true, ltb-true, ltb-false, and_parts, cases_eq, eqb-true, not-true}
 use Rattle.std.proofs.lemmas.Option.{same_Some, cond_some, slice_get_past}
 use Rattle.std.proofs.lemmas.List.{length-set, length-reverse, length-drop, length-map, map-set, get_or-map}
@@ -14,7 +13,7 @@ use Rattle.qc_base.specs.declared.ids.End.{End}
 use Rattle.qc_base.specs.declared.ids.End.TheVariants.{A, B}
 use Rattle.trap_model.specs.Trap.{Lists, limit_of, load_of, slot_at, place_count, is_zone}
 use Rattle.trap_model.specs.Joins.{same_end, links_of, docked as docked_by, first_of, joined_slot, slot_end, first_slot, slots_of}
-use Rattle.trap_model.specs.Channels.{channel as channel_of, merge, split_channel, merge_channel, move_channel, cross_channel, same_segment}
+use Rattle.trap_model.specs.Channels.{channel as channel_of, merge, merge_channel, move_channel, same_segment}
 use Rattle.trap_model.specs.Build.{IsTrap}
 use Rattle.trap_model.specs.declared.port.Link.{Link}
 use Rattle.trap_model.specs.declared.port.Link.TheVariants as links
@@ -38,7 +37,7 @@ use Rattle.step_rules.specs.declared.action.Rule.{Rule}
 use Rattle.step_rules.specs.declared.action.Rule.TheVariants as rules
 use Rattle.trap_model.specs.declared.channel.Kind.TheVariants.{Move}
 use Rattle.step_rules.specs.Way.{channel_for, passing, transfer, IsWithin}
-use Rattle.step_rules.specs.Tests.{Test, test, first_broken, is_empty, is_slot, is_junction, is_count_of, split_tests, move_tests, cross_tests, merge_tests, swap_tests, PassesTransport}
+use Rattle.step_rules.specs.Tests.{test, first_broken, is_empty, is_slot, is_junction, is_count_of, split_tests, move_tests, cross_tests, merge_tests, swap_tests, PassesTransport}
 use Rattle.step_rules.specs.Steps.{after, after_passing}
 use Rattle.step_rules.specs.Config.{Places, IsConfigOf}
 use Rattle.step_rules.proofs.Effects.{moving_ends}

@@ -1,8 +1,8 @@
 -- Lists that are a placement.
-use Rattle.std.proofs.Common.{◌≡◌, ℕ, zero, suc, ◌+◌, ◌*◌, ◌<◌, ◌≤◌, ◌^◌, List, [], ◌∷◌, ◌++◌, length, get_or, take, drop, Bool, true, false, cond, not, Some, None, refl, sym, ap, subst, ◌∙◌, inl, inr, arith, append_assoc, length-append}
-use Rattle.std.specs.Prelude.{Option, Result, Ok, Err, slice_get, ◌==◌, nat_le, find, All, option_map}
+use Rattle.std.proofs.Common.{◌≡◌, ℕ, zero, suc, ◌+◌, ◌*◌, ◌<◌, ◌≤◌, List, [], ◌∷◌, ◌++◌, length, get_or, take, drop, Bool, true, false, cond, not, Some, None, refl, sym, ap, subst, ◌∙◌, inl, inr, arith, append_assoc, length-append}
+use Rattle.std.specs.Prelude.{Option, Ok, Err, slice_get, ◌==◌, nat_le, find, All, option_map}
 use Rattle.std.specs.Option.{option_or, option_map_or}
-use Rattle.std.specs.List.{range_with_len, flat_map}
+use Rattle.std.specs.List.{range_with_len}
 use Rattle.std.proofs.lemmas.Bool.{leb-true, le-leb, lt-leb, not-false, cases_eq, eq-eqb, ne_eqb}
 use Rattle.std.proofs.lemmas.List.Elements.{All-nil, All-cons, All-head, All-tail}
 use Rattle.std.proofs.lemmas.Grind.{flat_map-append}
@@ -14,8 +14,8 @@ use Rattle.trap_model.specs.Trap.{Lists, limit_of, load_of, slot_at}
 use Rattle.trap_model.specs.Build.{IsTrap}
 use Rattle.trap_model.specs.declared.parts.ZonePart.{ZonePart}
 use Rattle.step_rules.specs.declared.placement.GivenFault.{GivenFault}
-use Rattle.step_rules.specs.declared.placement.GivenFault.TheVariants.{Repeated, Full, Missing, NoMemory}
-use Rattle.step_rules.specs.Placement.{reading_order, times, stands, first_repeated, zone_fault, zones_fault, missing_fault, unless_fault, placement_of, Gives, IsPlacement, IsNumbered}
+use Rattle.step_rules.specs.declared.placement.GivenFault.TheVariants.{Repeated, Full, Missing}
+use Rattle.step_rules.specs.Placement.{reading_order, times, stands, first_repeated, zone_fault, zones_fault, missing_fault, unless_fault, placement_of, IsPlacement, IsNumbered}
 use Rattle.step_rules.specs.Flags.{AreFlags}
 use Rattle.step_rules.proofs.Reading.{times-append, times_none, times_some, find_none, find_same}
 

@@ -2,7 +2,6 @@ use Rattle.std.proofs.Common.{◌≡◌, ℕ, ◌+◌, ◌<◌, ◌≤◌, List,
 use Rattle.std.specs.Prelude.{slice_get}
 use Rattle.std.proofs.lemmas.Option.{slice_get_read}
 use Rattle.qc_base.specs.declared.ids.Qubit.{Qubit}
-use Rattle.qc_base.specs.declared.ids.Ion.{Ion}
 use Rattle.trap_model.specs.Trap.{limit_of}
 use Rattle.trap_model.specs.declared.parts.ZonePart.{ZonePart}
 use Rattle.ion_chain.specs.IonRow.{IonRow, ions_of, room_of}

@@ -1,4 +1,4 @@
-use Rattle.std.proofs.Common.{◌≡◌, ℕ, List, ◌++◌, map, IsTrue, sym, subst, rules}
+use Rattle.std.proofs.Common.{ℕ, List, ◌++◌, map, IsTrue, subst}
 use Rattle.std.specs.Prelude.{All}
 use Rattle.std.proofs.lemmas.List.Elements.{All-append, All-map}
 use Rattle.trap_model.specs.Names.{is_name}

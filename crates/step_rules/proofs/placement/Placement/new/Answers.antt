@@ -1,12 +1,12 @@
-use Rattle.std.proofs.Common.{◌≡◌, ℕ, ◌<◌, ◌≤◌, List, length, get_or, take, Option, Some, None, refl, sym, ap, subst, ◌∙◌, arith}
-use Rattle.std.specs.Prelude.{All, Ok, option_map}
+use Rattle.std.proofs.Common.{◌≡◌, ℕ, ◌<◌, List, length, get_or, take, Option, refl, sym, ap, subst, ◌∙◌, arith}
+use Rattle.std.specs.Prelude.{All, option_map}
 use Rattle.qc_base.specs.declared.ids.Qubit.{Qubit}
 use Rattle.circuit_core.specs.Circuit.{qubit_count}
 use Rattle.trap_model.specs.Trap.{limit_of}
 use Rattle.trap_model.specs.declared.parts.ZonePart.{ZonePart}
 use Rattle.step_rules.specs.declared.placement.GivenFault.TheVariants.{Missing}
-use Rattle.step_rules.specs.Placement.{reading_order, placement_of, unless_fault}
-use Rattle.step_rules.proofs.Placements.{limit_read, all_in_zone, marked_zone, clean_zone, answer_full, answer_repeated, decided, is_placement, is_numbered}
+use Rattle.step_rules.specs.Placement.{reading_order, unless_fault}
+use Rattle.step_rules.proofs.Placements.{limit_read, all_in_zone, marked_zone, clean_zone, answer_full, decided, is_placement, is_numbered}
 use Rattle.step_rules.proofs.placement.Placement.new.Goals as goal
 
 pub mark-requires : goal.mark-requires
