@@ -1,6 +1,6 @@
 -- What an action does to the places, and that actions on different spots may change places.
-use Rattle.std.proofs.Common.{◌≡◌, ◌≢◌, ℕ, ◌+◌, ◌<◌, List, [], ◌∷◌, length, get_or, set, Bool, true, false, cond, Some, None, refl, sym, ap, subst, ◌∙◌, inl, inr, arith}
-use Rattle.std.specs.Prelude.{All, AllPairs, Contains, IsPermutation, Option, find, swap, slice_set, ◌==◌, option_map, option_and_then}
+use Rattle.std.proofs.Common.{◌≡◌, ◌≢◌, ℕ, ◌+◌, List, [], ◌∷◌, get_or, Bool, true, false, cond, Some, None, refl, sym, ap, subst, ◌∙◌, inl, inr, arith}
+use Rattle.std.specs.Prelude.{AllPairs, Contains, IsPermutation, Option, find, swap, slice_set, ◌==◌, option_map, option_and_then}
 use Rattle.std.specs.Option.{option_map_or}
 use Rattle.std.proofs.lemmas.Bool.{eqb-true, cases_order}
 use Rattle.std.proofs.lemmas.Option.{same_Some}
@@ -22,7 +22,7 @@ use Rattle.ion_chain.proofs.Transfers.{list_at-after_transfer, after_transfer-af
 use Rattle.step_rules.specs.declared.action.Action.{Action}
 use Rattle.step_rules.specs.declared.action.Action.TheVariants as actions
 use Rattle.step_rules.specs.Way.{channel_for, passing, transfer}
-use Rattle.step_rules.specs.Steps.{Spot, place, junction, docked, footprint, AreApart, after, after_passing, after_step}
+use Rattle.step_rules.specs.Steps.{Spot, place, junction, footprint, AreApart, after, after_passing, after_step}
 use Rattle.step_rules.proofs.Orders.{any_order}
 
 -- ---- the ends of an action's channel are in its footprint
@@ -152,7 +152,7 @@ swaps_passes config zone index b d zf zt =
     let to_seen : list_at (slice_set config zone s) d.to.0 ≡ list_at config d.to.0 = get_or-set_other config zone d.to.0 s [] (λ e. zt (sym e)) in
     let zone_seen : list_at (after_transfer config t) zone ≡ list_at config zone = list_at-after_transfer config t zone (λ e. zf (sym e)) (λ e. zt (sym e)) in
     rw (from_seen, to_seen, zone_seen)
-      (ap (λ ys. slice_set ys d.to.0 come) (set_comm config zone d.from.0 s gone zf) ∙ set_comm (slice_set config d.from.0 gone) zone d.to.0 s come zt)
+    (ap (λ ys. slice_set ys d.to.0 come) (set_comm config zone d.from.0 s gone zf) ∙ set_comm (slice_set config d.from.0 gone) zone d.to.0 s come zt)
 
 swaps_swaps : (config : List (List Ion)) (y i z j : ℕ) → y ≢ z
     → slice_set (slice_set config y (swap (list_at config y) i (i + 1))) z (swap (list_at (slice_set config y (swap (list_at config y) i (i + 1))) z) j (j + 1))
@@ -183,11 +183,11 @@ commute trap a b apart (swaps y i in_a is_a) (passes d in_b is_b) config =
 commute trap a b apart (passes c in_a is_a) (stays is_b) config = both trap config a b (λ x. after_passing x a c) (λ x. x) is_a is_b refl
 commute trap a b apart (passes c in_a is_a) (swaps z j in_b is_b) config =
     both trap config a b (λ x. after_passing x a c) (swapping z j) is_a is_b
-      (sym (swaps_passes config z j a c (λ e. differ trap a b apart c.from.0 z in_a.from in_b (sym e)) (λ e. differ trap a b apart c.to.0 z in_a.to in_b (sym e))))
+    (sym (swaps_passes config z j a c (λ e. differ trap a b apart c.from.0 z in_a.from in_b (sym e)) (λ e. differ trap a b apart c.to.0 z in_a.to in_b (sym e))))
 commute trap a b apart (passes c in_a is_a) (passes d in_b is_b) config =
     both trap config a b (λ x. after_passing x a c) (λ x. after_passing x b d) is_a is_b
-      (passes_passes config a b c d (differ trap a b apart c.from.0 d.from.0 in_a.from in_b.from) (differ trap a b apart c.to.0 d.to.0 in_a.to in_b.to)
-        (differ trap a b apart c.from.0 d.to.0 in_a.from in_b.to) (differ trap a b apart c.to.0 d.from.0 in_a.to in_b.from))
+    (passes_passes config a b c d (differ trap a b apart c.from.0 d.from.0 in_a.from in_b.from) (differ trap a b apart c.to.0 d.to.0 in_a.to in_b.to)
+    (differ trap a b apart c.from.0 d.to.0 in_a.from in_b.to) (differ trap a b apart c.to.0 d.from.0 in_a.to in_b.from))
 
 -- ---- actions that are apart, in any order
 
@@ -203,9 +203,9 @@ of_step trap step apart config a b in_a in_b =
     elim (cases_order i j) [
       | inl same ↦ (let e : a ≡ b = sym at_i ∙ ap (λ (k : ℕ). get_or step k b) same ∙ in_b.2 in ap (λ (x : Action). after trap (after trap config a) x) (sym e) ∙ ap (λ (x : Action). after trap (after trap config x) a) e)
       | inr other ↦ elim other [
-          | inl before ↦ in_either_order trap a b (subst (λ (x : Action). AreApart trap a x) at_j (subst (λ (x : Action). AreApart trap x (get_or step j a)) in_a.2 (apart i j a before in_b.1))) config
-          | inr after ↦ sym (in_either_order trap b a (subst (λ (x : Action). AreApart trap b x) at_i (subst (λ (x : Action). AreApart trap x (get_or step i b)) in_b.2 (apart j i b after in_a.1))) config)
-        ]
+        | inl before ↦ in_either_order trap a b (subst (λ (x : Action). AreApart trap a x) at_j (subst (λ (x : Action). AreApart trap x (get_or step j a)) in_a.2 (apart i j a before in_b.1))) config
+        | inr after ↦ sym (in_either_order trap b a (subst (λ (x : Action). AreApart trap b x) at_i (subst (λ (x : Action). AreApart trap x (get_or step i b)) in_b.2 (apart j i b after in_a.1))) config)
+      ]
     ]
 
 pub step_in_any_order : (trap : Lists) (config : List (List Ion)) (step other : List Action) → AllPairs (AreApart trap) step → IsPermutation step other → after_step trap config other ≡ after_step trap config step

@@ -24,10 +24,11 @@ same_itself (junction p) = eq-eqb p p refl
 
 -- what the test of two footprints says of their actions
 pub meet_iff : (trap : Lists) (a b : Action) (f g : Footprint) (answer : Bool) → spots f ≡ footprint trap a → spots g ≡ footprint trap b → answer ≡ list_any (is_worked_on (spots g)) (spots f) → IsTrue answer ↔ Meet trap a b
-meet_iff trap a b f g answer of_a of_b says =
-    (λ h. let both = met same_spot same_is (spots f) (spots g) (sym says ∙ h) in
+meet_iff trap a b f g answer of_a of_b says = (
+  λ h. let both = met same_spot same_is (spots f) (spots g) (sym says ∙ h) in
       record { spot = both.0; of_a = subst (λ (s : List Spot). Contains s both.0) of_a both.1; of_b = subst (λ (s : List Spot). Contains s both.0) of_b both.2 },
-     λ m. says ∙ meets same_spot same_itself (spots f) (spots g) m.spot (subst (λ (s : List Spot). Contains s m.spot) (sym of_a) m.of_a) (subst (λ (s : List Spot). Contains s m.spot) (sym of_b) m.of_b))
+  λ m. says ∙ meets same_spot same_itself (spots f) (spots g) m.spot (subst (λ (s : List Spot). Contains s m.spot) (sym of_a) m.of_a) (subst (λ (s : List Spot). Contains s m.spot) (sym of_b) m.of_b),
+)
 
 pub conflict_met : (trap : Lists) (circuit : Parts) (a b : Action) (answer : Bool) → (IsTrue answer ↔ Meet trap a b) → answer ≡ true → IsTrue answer ↔ Conflict trap circuit a b
 conflict_met trap circuit a b answer iff met_there = (λ h. inl (iff.0 h), λ h. met_there)

@@ -1,8 +1,7 @@
 -- An action that passes its tests: its ions have a way and room, and no place comes above its limit.
-use Rattle.std.proofs.Common.{◌≡◌, ◌≢◌, ℕ, zero, suc, ◌+◌, ◌-◌, ◌<◌, ◌≤◌, List, [], ◌∷◌, length, get_or, reverse, take, drop, Bool, true, false, not, ◌&&◌, cond, Some, None, refl, sym, ap, subst, ◌∙◌, inl, inr, arith, get_or-set_same, get_or-set_other, length-append, slice_index}
-use Rattle.std.specs.Prelude.{◌⊎◌, All, Option, map, slice_index_or, swap, slice_set, slice_get, nat_le, nat_lt, is_some, option_map, ◌==◌}
+use Rattle.std.proofs.Common.{◌≡◌, ◌≢◌, ℕ, zero, suc, ◌+◌, ◌<◌, ◌≤◌, List, [], ◌∷◌, length, Bool, true, false, not, ◌&&◌, cond, Some, None, refl, sym, ap, subst, ◌∙◌, inl, inr, arith, get_or-set_same, get_or-set_other, length-append, slice_index}
+use Rattle.std.specs.Prelude.{◌⊎◌, All, Option, map, slice_index_or, swap, slice_set, slice_get, nat_le, nat_lt, option_map, ◌==◌}
 use Rattle.std.specs.Option.{option_map_or, option_or}
-use Rattle.std.specs.List.{filter_map}
 use Rattle.std.proofs.lemmas.Bool.{cases_lt, leb-true, ltb-true, ltb-false, and_parts, cases_eq, eqb-true, not-true}
 use Rattle.std.proofs.lemmas.Option.{same_Some, cond_some, slice_get_past}
 use Rattle.std.proofs.lemmas.List.{length-set, length-reverse, length-drop, length-map, map-set, get_or-map}
@@ -14,7 +13,7 @@ use Rattle.qc_base.specs.declared.ids.End.{End}
 use Rattle.qc_base.specs.declared.ids.End.TheVariants.{A, B}
 use Rattle.trap_model.specs.Trap.{Lists, limit_of, load_of, slot_at, place_count, is_zone}
 use Rattle.trap_model.specs.Joins.{same_end, links_of, docked as docked_by, first_of, joined_slot, slot_end, first_slot, slots_of}
-use Rattle.trap_model.specs.Channels.{channel as channel_of, merge, split_channel, merge_channel, move_channel, cross_channel, same_segment}
+use Rattle.trap_model.specs.Channels.{channel as channel_of, merge, merge_channel, move_channel, same_segment}
 use Rattle.trap_model.specs.Build.{IsTrap}
 use Rattle.trap_model.specs.declared.port.Link.{Link}
 use Rattle.trap_model.specs.declared.port.Link.TheVariants as links
@@ -38,7 +37,7 @@ use Rattle.step_rules.specs.declared.action.Rule.{Rule}
 use Rattle.step_rules.specs.declared.action.Rule.TheVariants as rules
 use Rattle.trap_model.specs.declared.channel.Kind.TheVariants.{Move}
 use Rattle.step_rules.specs.Way.{channel_for, passing, transfer, IsWithin}
-use Rattle.step_rules.specs.Tests.{Test, test, first_broken, is_empty, is_slot, is_junction, is_count_of, split_tests, move_tests, cross_tests, merge_tests, swap_tests, PassesTransport}
+use Rattle.step_rules.specs.Tests.{test, first_broken, is_empty, is_slot, is_junction, is_count_of, split_tests, move_tests, cross_tests, merge_tests, swap_tests, PassesTransport}
 use Rattle.step_rules.specs.Steps.{after, after_passing}
 use Rattle.step_rules.specs.Config.{Places, IsConfigOf}
 use Rattle.step_rules.proofs.Effects.{moving_ends}
@@ -94,9 +93,9 @@ either (Some y) b x e = inl e
 links_behind : (trap : Lists) (zone : ℕ) (end : End) (ls : List Link) (s : SlotEnd) → IsTrap trap → AreLinks trap ls → first_of (docked_by trap zone end) ls ≡ Some s → length trap.zones ≤ s.slot
 links_behind trap zone end [] s sound known e = absurd cc
 links_behind trap zone end (link ∷ ls) s sound known e = elim (either (docked_by trap zone end link) (first_of (docked_by trap zone end) ls) s e) [
-    | inl here ↦ slot_behind trap zone end link s sound known.0 here
-    | inr there ↦ links_behind trap zone end ls s sound known.1 there
-  ]
+  | inl here ↦ slot_behind trap zone end link s sound known.0 here
+  | inr there ↦ links_behind trap zone end ls s sound known.1 there
+]
 
 mapped : {X Y : Type 0} (f : X → Y) (o : Option X) (y : Y) → option_map f o ≡ Some y → (x : X) × (o ≡ Some x) × (f x ≡ y)
 mapped f None y e = absurd cc
@@ -160,7 +159,7 @@ cross_pass trap config junction from to channel e =
     let source : List Ion = list_at config channel.from.0 in
     let target : List Ion = list_at config channel.to.0 in
     let all = five_passed (is_junction trap junction && (is_slot trap from && is_slot trap to)) true (not (is_empty source)) (is_empty target) (nat_le (length source) (limit_of trap channel.to.0))
-      rules.NoPlace rules.NoJoin rules.Empty rules.Occupied rules.Load e in
+    rules.NoPlace rules.NoJoin rules.Empty rules.Occupied rules.Load e in
     let some : 1 ≤ length (list_at config channel.from.0) = some_there source all.2 in
     let none : length (list_at config channel.to.0) ≡ 0 = none_there target all.3 in
     let load : length (list_at config channel.from.0) ≤ limit_of trap channel.to.0 = leb-true (length (list_at config channel.from.0)) (limit_of trap channel.to.0) all.4 in
@@ -224,13 +223,13 @@ within_passing trap config channel count within in_from in_to may place h =
           ap (list_at (after_transfer config (transfer channel count))) same ∙ get_or-set_other (slice_set config channel.from.0 gone) channel.to.0 channel.from.0 come [] may.apart ∙ get_or-set_same config channel.from.0 gone [] in_from in
           omega (arith, ap length at, length-left channel.from_end count source, within place h, ap (λ (p : ℕ). length (list_at config p)) same))
       | inr other ↦ elim (cases_eq place channel.to.0) [
-          | inl same ↦ (let at : list_at (after_transfer config (transfer channel count)) place ≡ come =
-              ap (list_at (after_transfer config (transfer channel count))) same ∙ get_or-set_same (slice_set config channel.from.0 gone) channel.to.0 come [] (omega (arith, in_to, length-set config channel.from.0 gone)) in
-              omega (arith, ap length at, length-joined channel.to_end (leaving channel.from_end count source) (list_at config channel.to.0), length-leaving channel.from_end count source may.enough, may.fits, ap (limit_of trap) same))
-          | inr apart ↦ (let at : list_at (after_transfer config (transfer channel count)) place ≡ list_at config place =
-              list_at-after_transfer config (transfer channel count) place (λ e. other (sym e)) (λ e. apart (sym e)) in
-              omega (arith, ap length at, within place h))
-        ]
+        | inl same ↦ (let at : list_at (after_transfer config (transfer channel count)) place ≡ come =
+            ap (list_at (after_transfer config (transfer channel count))) same ∙ get_or-set_same (slice_set config channel.from.0 gone) channel.to.0 come [] (omega (arith, in_to, length-set config channel.from.0 gone)) in
+            omega (arith, ap length at, length-joined channel.to_end (leaving channel.from_end count source) (list_at config channel.to.0), length-leaving channel.from_end count source may.enough, may.fits, ap (limit_of trap) same))
+        | inr apart ↦ (let at : list_at (after_transfer config (transfer channel count)) place ≡ list_at config place =
+            list_at-after_transfer config (transfer channel count) place (λ e. other (sym e)) (λ e. apart (sym e)) in
+            omega (arith, ap length at, within place h))
+      ]
     ]
 
 within_swap : (trap : Lists) (config : List (List Ion)) (zone index : ℕ) → AreWithin trap config → zone < length config → AreWithin trap (slice_set config zone (swap (list_at config zone) index (index + 1)))
@@ -284,9 +283,9 @@ slot_small trap (Some s) sound = load_small trap trap.segments s.segment sound.l
 
 pub any_limit_small : (trap : Lists) (place : ℕ) → IsTrap trap → limit_of trap place ≤ 32
 any_limit_small trap place sound = elim (cases_lt place (length trap.zones)) [
-    | inl zone ↦ limit_small trap place sound zone
-    | inr slot ↦ omega (arith, slot_limit trap place slot, slot_small trap (slot_at trap place) sound)
-  ]
+  | inl zone ↦ limit_small trap place sound zone
+  | inr slot ↦ omega (arith, slot_limit trap place slot, slot_small trap (slot_at trap place) sound)
+]
 
 pub record MayPerform (rows : List IonRow) (t : Transfer) : Type 0 where
   pub from : t.from.0 < length rows

@@ -1,5 +1,5 @@
 -- A fold over members that may change places.
-use Rattle.std.proofs.Common.{◌≡◌, ◌≢◌, ℕ, zero, suc, ◌+◌, ◌<◌, List, [], ◌∷◌, length, get_or, set, refl, sym, ap, ◌∙◌, inl, inr, arith}
+use Rattle.std.proofs.Common.{◌≡◌, ◌≢◌, ℕ, zero, suc, ◌<◌, List, [], ◌∷◌, length, get_or, set, refl, sym, ap, ◌∙◌, inl, inr, arith}
 use Rattle.std.specs.Prelude.{All, IsPermutation, fold, swap}
 use Rattle.std.proofs.lemmas.Bool.{cases_order}
 use Rattle.std.proofs.lemmas.List.{set_comm, set-get_or}
@@ -42,12 +42,12 @@ swap_none (d ∷ ys) i = ap (λ zs. set zs i (get_or (d ∷ ys) i d)) (set-get_o
 
 any_swap : {A B : Type 0} (f : B → A → B) (M : A → Type 0) → Commute f M → (xs : List A) → All M xs → (i j : ℕ) → i < length xs → j < length xs → (c : B) → fold f c (swap xs i j) ≡ fold f c xs
 any_swap f M free xs all i j in_i in_j c = elim (cases_order i j) [
-    | inl same ↦ ap (λ (k : ℕ). fold f c (swap xs i k)) (sym same) ∙ ap (fold f c) (swap_none xs i)
-    | inr other ↦ elim other [
-        | inl before ↦ swapped f M free xs all i j before in_j c
-        | inr after ↦ (let apart : i ≢ j = omega arith in ap (fold f c) (swap_back xs i j apart) ∙ swapped f M free xs all j i after in_i c)
-      ]
+  | inl same ↦ ap (λ (k : ℕ). fold f c (swap xs i k)) (sym same) ∙ ap (fold f c) (swap_none xs i)
+  | inr other ↦ elim other [
+    | inl before ↦ swapped f M free xs all i j before in_j c
+    | inr after ↦ (let apart : i ≢ j = omega arith in ap (fold f c) (swap_back xs i j apart) ∙ swapped f M free xs all j i after in_i c)
   ]
+]
 
 -- the members in any order
 pub any_order : {A B : Type 0} (f : B → A → B) (M : A → Type 0) → Commute f M → (xs ys : List A) → All M xs → IsPermutation xs ys → (c : B) → fold f c ys ≡ fold f c xs

@@ -1,8 +1,8 @@
 -- Lists that are a placement.
-use Rattle.std.proofs.Common.{◌≡◌, ℕ, zero, suc, ◌+◌, ◌*◌, ◌<◌, ◌≤◌, ◌^◌, List, [], ◌∷◌, ◌++◌, length, get_or, take, drop, Bool, true, false, cond, not, Some, None, refl, sym, ap, subst, ◌∙◌, inl, inr, arith, append_assoc, length-append}
-use Rattle.std.specs.Prelude.{Option, Result, Ok, Err, slice_get, ◌==◌, nat_le, find, All, option_map}
+use Rattle.std.proofs.Common.{◌≡◌, ℕ, zero, suc, ◌+◌, ◌*◌, ◌<◌, ◌≤◌, List, [], ◌∷◌, ◌++◌, length, get_or, take, drop, Bool, true, false, cond, not, Some, None, refl, sym, ap, subst, ◌∙◌, inl, inr, arith, append_assoc, length-append}
+use Rattle.std.specs.Prelude.{Option, Ok, Err, slice_get, ◌==◌, nat_le, find, All, option_map}
 use Rattle.std.specs.Option.{option_or, option_map_or}
-use Rattle.std.specs.List.{range_with_len, flat_map}
+use Rattle.std.specs.List.{range_with_len}
 use Rattle.std.proofs.lemmas.Bool.{leb-true, le-leb, lt-leb, not-false, cases_eq, eq-eqb, ne_eqb}
 use Rattle.std.proofs.lemmas.List.Elements.{All-nil, All-cons, All-head, All-tail}
 use Rattle.std.proofs.lemmas.Grind.{flat_map-append}
@@ -14,8 +14,8 @@ use Rattle.trap_model.specs.Trap.{Lists, limit_of, load_of, slot_at}
 use Rattle.trap_model.specs.Build.{IsTrap}
 use Rattle.trap_model.specs.declared.parts.ZonePart.{ZonePart}
 use Rattle.step_rules.specs.declared.placement.GivenFault.{GivenFault}
-use Rattle.step_rules.specs.declared.placement.GivenFault.TheVariants.{Repeated, Full, Missing, NoMemory}
-use Rattle.step_rules.specs.Placement.{reading_order, times, stands, first_repeated, zone_fault, zones_fault, missing_fault, unless_fault, placement_of, Gives, IsPlacement, IsNumbered}
+use Rattle.step_rules.specs.declared.placement.GivenFault.TheVariants.{Repeated, Full, Missing}
+use Rattle.step_rules.specs.Placement.{reading_order, times, stands, first_repeated, zone_fault, zones_fault, missing_fault, unless_fault, placement_of, IsPlacement, IsNumbered}
 use Rattle.step_rules.specs.Flags.{AreFlags}
 use Rattle.step_rules.proofs.Reading.{times-append, times_none, times_some, find_none, find_same}
 
@@ -40,9 +40,9 @@ unrepeated false q rest e = (refl, e)
 -- one more that isn't there
 once_more : (n : ℕ) (before : List Qubit) (q : Qubit) (b : Bool) → (q.0 ≡ n → times n before ≡ 0) → times n before ≤ 1 → cond (q.0 == n) 1 0 + 0 + times n before ≤ 1
 once_more n before q b new once = elim (cases_eq q.0 n) [
-    | inl same ↦ (let here : (q.0 == n) ≡ true = eq-eqb q.0 n same in rw here (omega (arith, new same)))
-    | inr other ↦ (let there : (q.0 == n) ≡ false = ne_eqb q.0 n other in rw there (omega arith))
-  ]
+  | inl same ↦ (let here : (q.0 == n) ≡ true = eq-eqb q.0 n same in rw here (omega (arith, new same)))
+  | inr other ↦ (let there : (q.0 == n) ≡ false = ne_eqb q.0 n other in rw there (omega arith))
+]
 
 once_each : (before list : List Qubit) → first_repeated before list ≡ None → ((n : ℕ) → times n before ≤ 1) → (n : ℕ) → times n (before ++ list) ≤ 1
 once_each before [] e once n = omega (arith, once n, times-append n before [])
@@ -124,7 +124,7 @@ is_numbered trap circuit lists e zones sound =
     let fit = zones_fit trap 0 [] lists clean.0 (λ n. omega arith) in
     let small : (k : ℕ) (list : List Qubit) → slice_get lists k ≡ Some list → length list ≤ 32 =
     λ k list f. let same : 0 + k ≡ k = omega arith in let within : k < length lists = slice_get_within lists k list f in
-      omega (arith, subst (λ (z : ℕ). length list ≤ limit_of trap z) same (fit.room k list f), limit_small trap k sound (omega arith)) in
+    omega (arith, subst (λ (z : ℕ). length list ≤ limit_of trap z) same (fit.room k list f), limit_small trap k sound (omega arith)) in
     record {
       once = fit.once;
       few = omega (arith, few_in_all lists small, sound.zones);
@@ -235,5 +235,5 @@ decided trap circuit lists given flags slice k number same past so_far len are r
     let is : find (λ n. not (stands n (reading_order lists))) (range_with_len 0 (qubit_count circuit)) ≡ number =
     sym (found ∙ ap (λ (m : ℕ). find (λ n. not (get_or slice n false)) (range_with_len 0 m)) count
     ∙ find_same (λ n. not (get_or slice n false)) (λ n. not (stands n (reading_order lists))) 0 (qubit_count circuit)
-      (λ n low high. ap (λ (s : List Bool). not (get_or s n false)) read ∙ ap not (whole n (omega (arith, high, len))))) in
+    (λ n low high. ap (λ (s : List Bool). not (get_or s n false)) read ∙ ap not (whole n (omega (arith, high, len))))) in
     ap (placement_of trap circuit) (sym same) ∙ answer_missing trap circuit lists number clean is ∙ ap (unless_fault (option_map (λ n. Missing (record { 0 = n })) number)) same

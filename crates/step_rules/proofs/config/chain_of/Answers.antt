@@ -1,4 +1,4 @@
-use Rattle.std.proofs.Common.{◌∙◌, ap, length, sym, arith, ◌+◌, ◌∷◌, [], length-append}
+use Rattle.std.proofs.Common.{ap, length, arith, ◌+◌, ◌∷◌, [], length-append}
 use Rattle.ion_chain.specs.IonRow.{ions_of}
 use Rattle.step_rules.specs.Placement.{ions_from}
 use Rattle.step_rules.proofs.Ions.{one_more_ion}

@@ -2,7 +2,6 @@ use Rattle.std.proofs.Common.{◌≡◌, ℕ, ◌+◌, ◌<◌, ◌≤◌, List,
 use Rattle.std.specs.Prelude.{slice_get}
 use Rattle.std.proofs.lemmas.Option.{slice_get_read}
 use Rattle.qc_base.specs.declared.ids.Qubit.{Qubit}
-use Rattle.qc_base.specs.declared.ids.Ion.{Ion}
 use Rattle.trap_model.specs.Trap.{limit_of}
 use Rattle.trap_model.specs.declared.parts.ZonePart.{ZonePart}
 use Rattle.ion_chain.specs.IonRow.{IonRow, ions_of, room_of}
@@ -39,7 +38,7 @@ loop-zone-preserved c =
     let grown : c.push.new.self.items ≡ rows ++ chain ∷ [] = c.in_ok-push.ensures.items in
     record {
       made = one_more_zone c.loop-zone.first k lists (map ions_of rows) (map ions_of c.push.new.self.items) (places_from 0 c.args.placement.now) list c.loop-zone-test.true read
-        (ap (map ions_of) grown ∙ zone_pushed rows chain (ions_from c.loop-zone.first list) c.in_ok-chain.ensures.ions) c.loop-zone.invariant.made;
+          (ap (map ions_of) grown ∙ zone_pushed rows chain (ions_from c.loop-zone.first list) c.in_ok-chain.ensures.ions) c.loop-zone.invariant.made;
       count = omega (arith, c.loop-zone.invariant.count, ap length apart, length-append list (reading_order (drop (k + 1) lists)));
       few = c.loop-zone.invariant.few;
       len = omega (arith, ap length grown, length-append rows (chain ∷ []), c.loop-zone.invariant.len);

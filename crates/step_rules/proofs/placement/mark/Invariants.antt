@@ -1,4 +1,4 @@
-use Rattle.std.proofs.Common.{◌≡◌, ◌+◌, ◌++◌, List, length, take, drop}
+use Rattle.std.proofs.Common.{◌≡◌, ◌++◌, List, length, take, drop}
 use Rattle.qc_base.specs.declared.ids.Qubit.{Qubit}
 use Rattle.step_rules.specs.Placement.{first_repeated}
 use Rattle.step_rules.specs.Flags.{AreFlags}

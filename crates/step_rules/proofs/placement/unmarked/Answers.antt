@@ -1,4 +1,4 @@
-use Rattle.std.proofs.Common.{◌∙◌, length, not, false, ap, sym, rules}
+use Rattle.std.proofs.Common.{◌∙◌, length, not, false, rules}
 use Rattle.std.specs.Prelude.{slice_index_or}
 use Rattle.step_rules.proofs.Reading.{find_on}
 use Rattle.step_rules.proofs.placement.unmarked.Goals as goal

@@ -1,18 +1,17 @@
-use Rattle.std.proofs.Common.{◌≡◌, ℕ, ◌+◌, ◌<◌, ◌≤◌, ◌^◌, List, length, map, refl, sym, ap, subst, ◌∙◌, arith}
-use Rattle.std.specs.Prelude.{slice_set, swap, Option, Some, None}
+use Rattle.std.proofs.Common.{◌≡◌, ℕ, ◌+◌, ◌<◌, List, length, map, sym, ap, subst, ◌∙◌, arith}
+use Rattle.std.specs.Prelude.{slice_set, swap, None}
 use Rattle.std.proofs.lemmas.List.{length-map}
 use Rattle.qc_base.specs.declared.ids.Ion.{Ion}
 use Rattle.trap_model.specs.Trap.{place_count}
 use Rattle.trap_model.specs.declared.channel.Channel.{Channel}
-use Rattle.ion_chain.specs.declared.transfer.Transfer.{Transfer}
-use Rattle.ion_chain.specs.IonRow.{IonRow, ions_of, room_of}
+use Rattle.ion_chain.specs.IonRow.{IonRow, ions_of}
 use Rattle.ion_chain.specs.Transfer.{list_at, after_transfer}
 use Rattle.step_rules.specs.declared.action.Action.{Action}
-use Rattle.step_rules.specs.Way.{channel_for, passing, transfer}
-use Rattle.step_rules.specs.Tests.{first_broken, transport_tests, PassesTransport}
+use Rattle.step_rules.specs.Way.{passing, transfer}
+use Rattle.step_rules.specs.Tests.{first_broken, transport_tests}
 use Rattle.step_rules.specs.Steps.{after}
 use Rattle.step_rules.specs.Config.{Places, IsConfigOf}
-use Rattle.step_rules.proofs.Moved.{MayPass, MayPerform, places_of, any_limit_small, may_pass, may_perform, after_way, kept_passing, kept_swap, swap_passed, swapped_lists, swapped_rooms}
+use Rattle.step_rules.proofs.Moved.{MayPass, places_of, any_limit_small, may_pass, may_perform, after_way, kept_passing, kept_swap, swap_passed, swapped_lists, swapped_rooms}
 use Rattle.step_rules.proofs.config.Config.apply.Goals as goal
 
 pub returns-in-Swap-clause-lists : goal.returns-in-Swap-clause-lists

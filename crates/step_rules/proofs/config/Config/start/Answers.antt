@@ -1,9 +1,9 @@
-use Rattle.std.proofs.Common.{◌≡◌, ℕ, ◌+◌, ◌-◌, ◌<◌, ◌≤◌, List, [], ◌∷◌, ◌++◌, length, map, replicate, refl, sym, ap, subst, ◌∙◌, arith, length-append}
+use Rattle.std.proofs.Common.{◌≡◌, ℕ, ◌+◌, ◌-◌, ◌≤◌, List, [], ◌∷◌, ◌++◌, length, map, replicate, sym, ap, subst, ◌∙◌, arith, length-append}
 use Rattle.std.proofs.lemmas.List.{append-nil, length-map}
 use Rattle.qc_base.specs.declared.ids.Ion.{Ion}
-use Rattle.trap_model.specs.Trap.{limit_of, slot_count, place_count}
+use Rattle.trap_model.specs.Trap.{limit_of, slot_count}
 use Rattle.ion_chain.specs.IonRow.{IonRow, ions_of, room_of}
-use Rattle.step_rules.specs.Placement.{places_from, start_of}
+use Rattle.step_rules.specs.Placement.{places_from}
 use Rattle.step_rules.specs.Config.{Places, HaveRoom}
 use Rattle.step_rules.proofs.Ions.{length-places_from, slot_pushed, rooms_pushed, started}
 use Rattle.step_rules.proofs.config.Config.start.Goals as goal

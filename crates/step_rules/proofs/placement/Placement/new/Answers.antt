@@ -1,12 +1,12 @@
-use Rattle.std.proofs.Common.{◌≡◌, ℕ, ◌<◌, ◌≤◌, List, length, get_or, take, Option, Some, None, refl, sym, ap, subst, ◌∙◌, arith}
-use Rattle.std.specs.Prelude.{All, Ok, option_map}
+use Rattle.std.proofs.Common.{◌≡◌, ℕ, ◌<◌, List, length, get_or, take, Option, refl, sym, ap, subst, ◌∙◌, arith}
+use Rattle.std.specs.Prelude.{All, option_map}
 use Rattle.qc_base.specs.declared.ids.Qubit.{Qubit}
 use Rattle.circuit_core.specs.Circuit.{qubit_count}
 use Rattle.trap_model.specs.Trap.{limit_of}
 use Rattle.trap_model.specs.declared.parts.ZonePart.{ZonePart}
 use Rattle.step_rules.specs.declared.placement.GivenFault.TheVariants.{Missing}
-use Rattle.step_rules.specs.Placement.{reading_order, placement_of, unless_fault}
-use Rattle.step_rules.proofs.Placements.{limit_read, all_in_zone, marked_zone, clean_zone, answer_full, answer_repeated, decided, is_placement, is_numbered}
+use Rattle.step_rules.specs.Placement.{reading_order, unless_fault}
+use Rattle.step_rules.proofs.Placements.{limit_read, all_in_zone, marked_zone, clean_zone, answer_full, decided, is_placement, is_numbered}
 use Rattle.step_rules.proofs.placement.Placement.new.Goals as goal
 
 pub mark-requires : goal.mark-requires
@@ -47,14 +47,14 @@ loop-zone-preserved c =
       len = c.mark.ensures.len ∙ c.loop-zone.invariant.len;
       marked = marked_zone c.mark.new.flags.items lists k list c.loop-zone-test.true read (c.in_default.ensures.marked before c.loop-zone.invariant.marked refl);
       so_far = c.loop-zone.invariant.so_far
-        ∙ clean_zone c.args.trap.now lists k list c.loop-zone-test.true read (c.in_default.ensures.repeated before c.loop-zone.invariant.marked) (omega (arith, limit, c.if-items-zones.false, ap length again, ap (λ (z : ZonePart). z.capacity) c.index-zones-zone.is));
+          ∙ clean_zone c.args.trap.now lists k list c.loop-zone-test.true read (c.in_default.ensures.repeated before c.loop-zone.invariant.marked) (omega (arith, limit, c.if-items-zones.false, ap length again, ap (λ (z : ZonePart). z.capacity) c.index-zones-zone.is));
     }
 
 pub invariant_of-result : goal.invariant_of-result
 invariant_of-result c =
     let lists : List (List Qubit) = c.deref-list-items.result.now in
     let said = decided c.args.trap.now c.args.circuit.now lists c.args.lists.items c.loop-zone.flags.items c.as_slice.result.now c.loop-zone.zone c.unmarked.result
-      c.deref-list-items.ensures.value c.loop-zone-test.false c.loop-zone.invariant.so_far c.loop-zone.invariant.len c.loop-zone.invariant.marked c.as_slice.ensures.value c.unmarked.ensures in
+    c.deref-list-items.ensures.value c.loop-zone-test.false c.loop-zone.invariant.so_far c.loop-zone.invariant.len c.loop-zone.invariant.marked c.as_slice.ensures.value c.unmarked.ensures in
     let given : List (List Qubit) = c.args.lists.items in
     is_numbered c.args.trap.now c.args.circuit.now given (said ∙ ap (λ (o : Option ℕ). unless_fault (option_map (λ n. Missing (record { 0 = n })) o) given) c.in-None.is) c.requires.zones c.zones-zones.ensures.trap
 
@@ -62,7 +62,7 @@ pub returns-in-Some-unmarked-clause-answer : goal.returns-in-Some-unmarked-claus
 returns-in-Some-unmarked-clause-answer c =
     let lists : List (List Qubit) = c.deref-list-items.result.now in
     let said = decided c.args.trap.now c.args.circuit.now lists c.args.lists.items c.loop-zone.flags.items c.as_slice.result.now c.loop-zone.zone c.unmarked.result
-      c.deref-list-items.ensures.value c.loop-zone-test.false c.loop-zone.invariant.so_far c.loop-zone.invariant.len c.loop-zone.invariant.marked c.as_slice.ensures.value c.unmarked.ensures in
+    c.deref-list-items.ensures.value c.loop-zone-test.false c.loop-zone.invariant.so_far c.loop-zone.invariant.len c.loop-zone.invariant.marked c.as_slice.ensures.value c.unmarked.ensures in
     let given : List (List Qubit) = c.args.lists.items in
     sym (said ∙ ap (λ (o : Option ℕ). unless_fault (option_map (λ n. Missing (record { 0 = n })) o) given) c.in-Some-unmarked.is)
 
@@ -70,7 +70,7 @@ pub returns-in-None-clause-answer : goal.returns-in-None-clause-answer
 returns-in-None-clause-answer c =
     let lists : List (List Qubit) = c.deref-list-items.result.now in
     let said = decided c.args.trap.now c.args.circuit.now lists c.args.lists.items c.loop-zone.flags.items c.as_slice.result.now c.loop-zone.zone c.unmarked.result
-      c.deref-list-items.ensures.value c.loop-zone-test.false c.loop-zone.invariant.so_far c.loop-zone.invariant.len c.loop-zone.invariant.marked c.as_slice.ensures.value c.unmarked.ensures in
+    c.deref-list-items.ensures.value c.loop-zone-test.false c.loop-zone.invariant.so_far c.loop-zone.invariant.len c.loop-zone.invariant.marked c.as_slice.ensures.value c.unmarked.ensures in
     let given : List (List Qubit) = c.args.lists.items in
     sym (said ∙ ap (λ (o : Option ℕ). unless_fault (option_map (λ n. Missing (record { 0 = n })) o) given) c.in-None.is)
 
@@ -78,6 +78,6 @@ pub returns-in-None-clause-placed : goal.returns-in-None-clause-placed
 returns-in-None-clause-placed c =
     let lists : List (List Qubit) = c.deref-list-items.result.now in
     let said = decided c.args.trap.now c.args.circuit.now lists c.args.lists.items c.loop-zone.flags.items c.as_slice.result.now c.loop-zone.zone c.unmarked.result
-      c.deref-list-items.ensures.value c.loop-zone-test.false c.loop-zone.invariant.so_far c.loop-zone.invariant.len c.loop-zone.invariant.marked c.as_slice.ensures.value c.unmarked.ensures in
+    c.deref-list-items.ensures.value c.loop-zone-test.false c.loop-zone.invariant.so_far c.loop-zone.invariant.len c.loop-zone.invariant.marked c.as_slice.ensures.value c.unmarked.ensures in
     let given : List (List Qubit) = c.args.lists.items in
     is_placement c.args.trap.now c.args.circuit.now given (said ∙ ap (λ (o : Option ℕ). unless_fault (option_map (λ n. Missing (record { 0 = n })) o) given) c.in-None.is) c.requires.zones c.requires.qubits

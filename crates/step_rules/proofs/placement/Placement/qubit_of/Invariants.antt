@@ -1,6 +1,6 @@
-use Rattle.std.proofs.Common.{◌≡◌, ◌+◌, ◌<◌, ◌≤◌, length, drop}
+use Rattle.std.proofs.Common.{◌≡◌, ◌<◌, length, drop}
 use Rattle.std.specs.Prelude.{slice_get}
-use Rattle.step_rules.specs.Placement.{reading_order, times}
+use Rattle.step_rules.specs.Placement.{reading_order}
 use Rattle.step_rules.proofs.placement.Placement.qubit_of.Given as goal
 
 -- the qubit is still to come
