@@ -1,28 +1,18 @@
 -- Arguments, lists of them, and readers by the first token.
-use Rattle.std.proofs.Common.{◌≡◌, ℕ, zero, suc, ◌+◌, ◌<◌, ◌≤◌, Bool, true, false, not, cond, List, [], ◌∷◌, ◌++◌, length, Option, Some, None, refl, sym, ap, subst, ◌∙◌, append_assoc, arith, inl, inr}
+use Rattle.std.proofs.Common.{◌≡◌, ℕ, Bool, true, false, cond, List, [], ◌∷◌, ◌++◌, Option, Some, None, refl, ap, ◌∙◌, append_assoc}
 use Rattle.std.specs.Option.{option_or}
-use Rattle.std.proofs.lemmas.Bool.{cond-true, cond-false}
-use Rattle.std.proofs.lemmas.List.{length-append}
+use Rattle.std.proofs.lemmas.Bool.{cond-true}
 use Rattle.qasm_read.specs.declared.arg.Arg.{Arg}
-use Rattle.qasm_read.specs.declared.body_item.BodyItem.{BodyItem}
-use Rattle.qasm_read.specs.declared.body_item.BodyItem.TheVariants as item
-use Rattle.qasm_read.specs.declared.exp.Exp.{Exp}
-use Rattle.qasm_read.specs.declared.qop.Qop.{Qop}
-use Rattle.qasm_read.specs.declared.qop.Qop.TheVariants as operation
-use Rattle.qasm_read.specs.declared.statement.Statement.{Statement}
-use Rattle.qasm_read.specs.declared.statement.Statement.TheVariants as statement
 use Rattle.qasm_tokens.specs.declared.token.PlacedToken.{PlacedToken}
 use Rattle.qasm_tokens.specs.declared.token.Token.{Token}
 use Rattle.qasm_tokens.specs.declared.token.Token.TheVariants as token
-use Rattle.qasm_tokens.specs.declared.token.Keyword.{Keyword}
-use Rattle.qasm_tokens.specs.declared.token.Keyword.TheVariants as word
 use Rattle.qasm_tokens.specs.declared.token.Sign.{Sign}
-use Rattle.qasm_tokens.specs.declared.token.Sign.TheVariants.{Semicolon, Comma, LeftParenthesis, RightParenthesis, LeftBracket, RightBracket, LeftBrace, RightBrace, Arrow, Equals}
-use Rattle.qasm_read.specs.Forms.{Form, Then, ◌▸◌, tokens_of, just, sign, name, integer, text, each, commas, parameters}
-use Rattle.qasm_read.specs.Grammar.{index, argument, formals, some_expressions, body_item, qop, a_statement}
-use Rattle.qasm_read.specs.Reading.{State, Reader, ◌>>=◌, comes, next_at, skip_at, name_at, integer_at, text_at, with_front, repeat, repeat_at, commas_at, some_in_parentheses, parameters_at, made, pair, behind, closed, index_at, argument_at, formals_at, body_item_in, body_item_at, body_at, qop_in, qop_at, include_at, register_at, gate_at, opaque_at, barrier_at, condition_at, statement_in, statement_at}
-use Rattle.qasm_read.proofs.Readers.{at, is_sign-same, bind_some, along, or-none, or_assoc, Took, Took-then, took_one, Took-not_longer, Reads, anything, one_token, reads_sign, reads_name, reads_integer, reads_text, reads_pair, reads_behind, reads_closed, Allows, Joins}
-use Rattle.qasm_read.proofs.Lists.{Shortens, without, both, Avoids, Goes, reads_repeat, reads_commas, reads_some, reads_parameters}
+use Rattle.qasm_tokens.specs.declared.token.Sign.TheVariants.{Comma, LeftParenthesis, RightParenthesis, LeftBracket, RightBracket}
+use Rattle.qasm_read.specs.Forms.{Form, ◌▸◌, just, sign, name, integer, commas, parameters}
+use Rattle.qasm_read.specs.Grammar.{index, argument, formals}
+use Rattle.qasm_read.specs.Reading.{State, Reader, ◌>>=◌, comes, next_at, name_at, integer_at, commas_at, parameters_at, made, closed, index_at, argument_at, formals_at}
+use Rattle.qasm_read.proofs.Readers.{at, is_sign-same, bind_some, along, or_assoc, Took, Took-then, took_one, Reads, anything, one_token, reads_name, reads_integer, reads_pair, reads_behind, reads_closed}
+use Rattle.qasm_read.proofs.Lists.{without, both, Avoids, reads_commas, reads_parameters}
 
 -- ---- arguments
 
@@ -56,8 +46,8 @@ argument_only n (Some i) large before front rest t end =
     let mid : State = at (t.back ++ rest) (option_or before t.large_front) in
     let on : comes LeftBracket mid ≡ true = rw (t.second.parts, append_assoc) (sign_comes LeftBracket t.second.large_front before t.second.front (t.second.back ++ rest) t.second.first) in
     rw (t.parts, append_assoc, t.earlier, ← or_assoc) (rw (reads_name.only n t.large_front before t.front (t.back ++ rest) t.first tt)
-      (cond-true (comes LeftBracket mid) (index_at mid >>= indexed n) (unindexed n mid) on
-      ∙ ap (λ (r : Option (ℕ × State)). r >>= indexed n) (reads_index.only i t.large_back (option_or before t.large_front) t.back rest t.second tt)))
+    (cond-true (comes LeftBracket mid) (index_at mid >>= indexed n) (unindexed n mid) on
+    ∙ ap (λ (r : Option (ℕ × State)). r >>= indexed n) (reads_index.only i t.large_back (option_or before t.large_front) t.back rest t.second tt)))
 
 pub reads_argument : Reads argument (without LeftBracket) argument_at
 reads_argument = record {
@@ -87,13 +77,11 @@ closed_avoids F s u avoids x large front rest t = rw (t.parts, append_assoc) (av
 
 -- ---- formals
 
-
 abbrev pub names_end : List PlacedToken → Type 0
 names_end = both anything (without Comma)
 
 pub reads_names : Reads (commas name) names_end (commas_at name_at)
 reads_names = reads_commas name anything name_at reads_name (λ p rest e. tt)
-
 
 abbrev pub arguments_end : List PlacedToken → Type 0
 arguments_end = both (without LeftBracket) (without Comma)
@@ -103,9 +91,9 @@ reads_arguments = reads_commas argument (without LeftBracket) argument_at reads_
 
 pub reads_formals : Reads (λ (p : List (List ℕ) × List (List ℕ)). formals p.0 p.1) names_end formals_at
 reads_formals = reads_pair (parameters name) (commas name) (without LeftParenthesis) names_end (parameters_at name_at) (commas_at name_at)
-  (reads_parameters name anything name_at reads_name (λ p rest e. tt) (λ p rest e. (tt, rw e refl)) (name_avoids RightParenthesis))
-  reads_names
-  (λ y large back rest t end. commas_avoid name LeftParenthesis (name_avoids LeftParenthesis) y large back rest t)
+    (reads_parameters name anything name_at reads_name (λ p rest e. tt) (λ p rest e. (tt, rw e refl)) (name_avoids RightParenthesis))
+    reads_names
+    (λ y large back rest t end. commas_avoid name LeftParenthesis (name_avoids LeftParenthesis) y large back rest t)
 
 -- ---- by the first token
 

@@ -1,8 +1,6 @@
 -- What spells an expression is read as that expression.
-use Rattle.std.proofs.Common.{◌≡◌, ℕ, ◌+◌, ◌<◌, ◌≤◌, Bool, true, false, cond, leb, List, [], ◌∷◌, ◌++◌, length, Option, Some, None, refl, sym, ap, subst, ◌∙◌, append_assoc, arith}
-use Rattle.std.specs.Option.{option_or}
+use Rattle.std.proofs.Common.{◌≡◌, ℕ, ◌<◌, ◌≤◌, cond, List, [], ◌∷◌, ◌++◌, Option, Some, None, refl, sym, ap, ◌∙◌, append_assoc, arith}
 use Rattle.std.proofs.lemmas.Bool.{le-leb, lt-leb}
-use Rattle.std.proofs.lemmas.List.{append-nil}
 use Rattle.circuit_core.specs.declared.words.BinOp.{BinOp}
 use Rattle.circuit_core.specs.declared.words.BinOp.TheVariants.{Add, Sub, Mul, Div, Pow}
 use Rattle.circuit_core.specs.declared.words.FunName.{FunName}
@@ -18,9 +16,9 @@ use Rattle.qasm_tokens.specs.declared.token.Token.TheVariants as token
 use Rattle.qasm_tokens.specs.declared.token.Keyword.TheVariants as word
 use Rattle.qasm_tokens.specs.declared.token.Sign.TheVariants.{LeftParenthesis, RightParenthesis, Minus as MinusSign}
 use Rattle.qasm_read.specs.declared.tree.Tree.{Tree}
-use Rattle.qasm_read.specs.Forms.{Form, tokens_of, place_of}
-use Rattle.qasm_read.specs.Grammar.{Level, expression, term, factor, power, atom, whole_of, left_of, right_of, sign_of, word_of, enclosed, Spells, real, whole, pi, named, applied, in_parentheses, negated, joined, an_atom, a_power, a_factor, a_term, nodes_of, is_small, an_expression}
-use Rattle.qasm_read.specs.Reading.{State, ◌>>=◌, is_sign, next_at, skip_at}
+use Rattle.qasm_read.specs.Forms.{tokens_of}
+use Rattle.qasm_read.specs.Grammar.{Level, expression, term, factor, power, atom, whole_of, left_of, right_of, sign_of, word_of, enclosed, Spells, real, whole, pi, named, applied, in_parentheses, negated, joined, an_atom, a_power, a_factor, a_term}
+use Rattle.qasm_read.specs.Reading.{◌>>=◌, next_at}
 use Rattle.qasm_read.specs.Trees as trees
 use Rattle.qasm_read.specs.Frames.{strength_of, left_hold, hold_of, put_in, reduced}
 use Rattle.qasm_read.specs.Starts.{start_of, operator_of}
@@ -166,8 +164,8 @@ reached_whole t e begins is = record {
   holding = tt;
   whole_tree = is;
   runs = λ front spelled outer weak rest.
-    let o = one_token t front spelled in
-    ap (λ (ts : List PlacedToken). run (ts ++ rest) (wanted outer)) o.1 ∙ wanted_whole (at (o.0 ∷ rest) None) (at rest None) t e outer (took o.0 rest t o.2) begins;
+      let o = one_token t front spelled in
+      ap (λ (ts : List PlacedToken). run (ts ++ rest) (wanted outer)) o.1 ∙ wanted_whole (at (o.0 ∷ rest) None) (at rest None) t e outer (took o.0 rest t o.2) begins;
 }
 
 raise : (low high : Level) (e : Exp) (tokens : List Token) → floor_of high ≤ floor_of low → ceiling_of high ≤ ceiling_of low → Reached low e tokens → Reached high e tokens
@@ -214,13 +212,13 @@ reached_applied f e tokens r = record {
   holding = tt;
   whole_tree = image_fun f e;
   runs = λ front spelled outer weak rest.
-    let a = first_parts (word_of f) (enclosed tokens) front spelled in
-    let b = first_parts (token.Sign LeftParenthesis) (tokens ++ token.Sign RightParenthesis ∷ []) a.1 a.4 in
-    let behind = b.1 ++ rest in
-    let parts : front ≡ a.0 ∷ b.0 ∷ b.1 = a.2 ∙ ap (λ (ts : List PlacedToken). a.0 ∷ ts) b.2 in
-    ap (λ (ts : List PlacedToken). run (ts ++ rest) (wanted outer)) parts
-    ∙ wanted_function (at (a.0 ∷ b.0 ∷ behind) None) (at (b.0 ∷ behind) None) (at behind None) (word_of f) f outer (took a.0 (b.0 ∷ behind) (word_of f) a.3) (word_starts f) (skip_front LeftParenthesis b.0 behind None b.3)
-    ∙ close_runs e tokens (Function f) refl r b.1 b.4 outer rest;
+      let a = first_parts (word_of f) (enclosed tokens) front spelled in
+      let b = first_parts (token.Sign LeftParenthesis) (tokens ++ token.Sign RightParenthesis ∷ []) a.1 a.4 in
+      let behind = b.1 ++ rest in
+      let parts : front ≡ a.0 ∷ b.0 ∷ b.1 = a.2 ∙ ap (λ (ts : List PlacedToken). a.0 ∷ ts) b.2 in
+      ap (λ (ts : List PlacedToken). run (ts ++ rest) (wanted outer)) parts
+      ∙ wanted_function (at (a.0 ∷ b.0 ∷ behind) None) (at (b.0 ∷ behind) None) (at behind None) (word_of f) f outer (took a.0 (b.0 ∷ behind) (word_of f) a.3) (word_starts f) (skip_front LeftParenthesis b.0 behind None b.3)
+      ∙ close_runs e tokens (Function f) refl r b.1 b.4 outer rest;
 }
 
 reached_enclosed : (e : Exp) (tokens : List Token) → Reached expression e tokens → Reached atom e (enclosed tokens)
@@ -230,10 +228,10 @@ reached_enclosed e tokens r = record {
   holding = tt;
   whole_tree = refl;
   runs = λ front spelled outer weak rest.
-    let a = first_parts (token.Sign LeftParenthesis) (tokens ++ token.Sign RightParenthesis ∷ []) front spelled in
-    ap (λ (ts : List PlacedToken). run (ts ++ rest) (wanted outer)) a.2
-    ∙ wanted_frame (at (a.0 ∷ (a.1 ++ rest)) None) (at (a.1 ++ rest) None) (token.Sign LeftParenthesis) Parenthesis outer (took a.0 (a.1 ++ rest) (token.Sign LeftParenthesis) a.3) refl
-    ∙ close_runs e tokens Parenthesis refl r a.1 a.4 outer rest;
+      let a = first_parts (token.Sign LeftParenthesis) (tokens ++ token.Sign RightParenthesis ∷ []) front spelled in
+      ap (λ (ts : List PlacedToken). run (ts ++ rest) (wanted outer)) a.2
+      ∙ wanted_frame (at (a.0 ∷ (a.1 ++ rest)) None) (at (a.1 ++ rest) None) (token.Sign LeftParenthesis) Parenthesis outer (took a.0 (a.1 ++ rest) (token.Sign LeftParenthesis) a.3) refl
+      ∙ close_runs e tokens Parenthesis refl r a.1 a.4 outer rest;
 }
 
 moved : (frames : List Frame) (f : Frame) (outer : List Frame) (tree : Option Tree) (rest : List PlacedToken) → run rest (there (frames ++ (f ∷ outer)) tree) ≡ run rest (there ((frames ++ f ∷ []) ++ outer) tree)
@@ -246,11 +244,11 @@ reached_negated e tokens r = record {
   holding = Holding-last 4 r.frames Minus r.holding (omega arith);
   whole_tree = put_last r.frames Minus r.tree ∙ ap (λ (t : Option Tree). trees.negated t) r.whole_tree ∙ image_neg e;
   runs = λ front spelled outer weak rest.
-    let a = first_parts (token.Sign MinusSign) tokens front spelled in
-    ap (λ (ts : List PlacedToken). run (ts ++ rest) (wanted outer)) a.2
-    ∙ wanted_frame (at (a.0 ∷ (a.1 ++ rest)) None) (at (a.1 ++ rest) None) (token.Sign MinusSign) Minus outer (took a.0 (a.1 ++ rest) (token.Sign MinusSign) a.3) refl
-    ∙ r.runs a.1 a.4 (Minus ∷ outer) (omega arith) rest
-    ∙ moved r.frames Minus outer r.tree rest;
+      let a = first_parts (token.Sign MinusSign) tokens front spelled in
+      ap (λ (ts : List PlacedToken). run (ts ++ rest) (wanted outer)) a.2
+      ∙ wanted_frame (at (a.0 ∷ (a.1 ++ rest)) None) (at (a.1 ++ rest) None) (token.Sign MinusSign) Minus outer (took a.0 (a.1 ++ rest) (token.Sign MinusSign) a.3) refl
+      ∙ r.runs a.1 a.4 (Minus ∷ outer) (omega arith) rest
+      ∙ moved r.frames Minus outer r.tree rest;
 }
 
 reached_joined : (op : BinOp) (a b : Exp) (left right : List Token) → Reached (left_of op) a left → Reached (right_of op) b right → Reached (whole_of op) (roll-Exp (Exp-F.Bin op a b)) (left ++ sign_of op ∷ right)
@@ -262,20 +260,20 @@ reached_joined op a b left right ra rb =
       holding = Holding-last (floor_of (whole_of op)) rb.frames f (Holding-less (floor_of (whole_of op)) (floor_of (right_of op)) rb.frames (omega (arith, floor_whole op, floor_right op)) rb.holding) (omega (arith, floor_whole op));
       whole_tree = put_last rb.frames f rb.tree ∙ ap (λ (t : Option Tree). trees.joined op (image a) t) rb.whole_tree ∙ image_bin op a b;
       runs = λ front spelled outer weak rest.
-        let s = split_parts left (sign_of op ∷ right) front spelled in
-        let o = first_parts (sign_of op) right s.1 s.4 in
-        let behind = o.1 ++ rest in
-        let parts : front ++ rest ≡ s.0 ++ (o.0 ∷ behind) = ap (λ (ts : List PlacedToken). ts ++ rest) (s.2 ∙ ap (λ (ts : List PlacedToken). s.0 ++ ts) o.2) ∙ append_assoc s.0 (o.0 ∷ o.1) rest in
-        let weak_left : Weak (ceiling_of (left_of op)) outer = Weak-more (ceiling_of (whole_of op)) (ceiling_of (left_of op)) outer (omega (arith, ceiling_whole op, ceiling_left op)) weak in
-        let weak_op : Weak (strength_of op) outer = Weak-more (ceiling_of (whole_of op)) (strength_of op) outer (omega (arith, ceiling_whole op)) weak in
-        let holds : Holding (strength_of op) ra.frames = Holding-less (strength_of op) (floor_of (left_of op)) ra.frames (omega (arith, floor_left op)) ra.holding in
-        let all : (outer, image a) ≡ reduced (strength_of op) (ra.frames ++ outer) ra.tree = sym (reduced_through (strength_of op) ra.frames outer ra.tree holds ∙ reduced_stops (strength_of op) outer (put_all ra.frames ra.tree) weak_op ∙ ap (λ (t : Option Tree). (outer, t)) ra.whole_tree) in
-        let within : Weak (ceiling_of (right_of op)) (f ∷ outer) = hold_right op in
-        ap (λ (ts : List PlacedToken). run ts (wanted outer)) parts
-        ∙ ra.runs s.0 s.3 outer weak_left (o.0 ∷ behind)
-        ∙ there_operator (at (o.0 ∷ behind) None) (sign_of op) (at behind None) op (ra.frames ++ outer) outer ra.tree (image a) (ap operator_of o.3 ∙ sign_operates op) (took o.0 behind (sign_of op) o.3) all
-        ∙ rb.runs o.1 o.4 (f ∷ outer) within rest
-        ∙ moved rb.frames f outer rb.tree rest;
+          let s = split_parts left (sign_of op ∷ right) front spelled in
+          let o = first_parts (sign_of op) right s.1 s.4 in
+          let behind = o.1 ++ rest in
+          let parts : front ++ rest ≡ s.0 ++ (o.0 ∷ behind) = ap (λ (ts : List PlacedToken). ts ++ rest) (s.2 ∙ ap (λ (ts : List PlacedToken). s.0 ++ ts) o.2) ∙ append_assoc s.0 (o.0 ∷ o.1) rest in
+          let weak_left : Weak (ceiling_of (left_of op)) outer = Weak-more (ceiling_of (whole_of op)) (ceiling_of (left_of op)) outer (omega (arith, ceiling_whole op, ceiling_left op)) weak in
+          let weak_op : Weak (strength_of op) outer = Weak-more (ceiling_of (whole_of op)) (strength_of op) outer (omega (arith, ceiling_whole op)) weak in
+          let holds : Holding (strength_of op) ra.frames = Holding-less (strength_of op) (floor_of (left_of op)) ra.frames (omega (arith, floor_left op)) ra.holding in
+          let all : (outer, image a) ≡ reduced (strength_of op) (ra.frames ++ outer) ra.tree = sym (reduced_through (strength_of op) ra.frames outer ra.tree holds ∙ reduced_stops (strength_of op) outer (put_all ra.frames ra.tree) weak_op ∙ ap (λ (t : Option Tree). (outer, t)) ra.whole_tree) in
+          let within : Weak (ceiling_of (right_of op)) (f ∷ outer) = hold_right op in
+          ap (λ (ts : List PlacedToken). run ts (wanted outer)) parts
+          ∙ ra.runs s.0 s.3 outer weak_left (o.0 ∷ behind)
+          ∙ there_operator (at (o.0 ∷ behind) None) (sign_of op) (at behind None) op (ra.frames ++ outer) outer ra.tree (image a) (ap operator_of o.3 ∙ sign_operates op) (took o.0 behind (sign_of op) o.3) all
+          ∙ rb.runs o.1 o.4 (f ∷ outer) within rest
+          ∙ moved rb.frames f outer rb.tree rest;
     }
 
 pub climb : (level : Level) (e : Exp) (tokens : List Token) → Spells level e tokens → Reached level e tokens

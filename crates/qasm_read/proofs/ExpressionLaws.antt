@@ -1,5 +1,5 @@
 -- The reader of expressions reads expressions, with pi for a large one.
-use Rattle.std.proofs.Common.{◌≡◌, ℕ, ◌+◌, ◌<◌, ◌≤◌, Bool, true, false, cond, leb, List, [], ◌∷◌, ◌++◌, length, Option, Some, None, refl, sym, ap, subst, ◌∙◌, append_assoc, arith}
+use Rattle.std.proofs.Common.{◌≡◌, ℕ, Bool, true, false, cond, List, [], ◌∷◌, ◌++◌, Option, Some, None, refl, sym, ap, subst, ◌∙◌}
 use Rattle.std.specs.Option.{option_or}
 use Rattle.circuit_core.specs.declared.words.FunName.{FunName}
 use Rattle.circuit_core.specs.declared.words.FunName.TheVariants as function
@@ -7,15 +7,13 @@ use Rattle.qasm_read.specs.declared.exp.Exp.{Exp, roll-Exp}
 use Rattle.qasm_read.specs.declared.exp.Exp.TheOpen.{Exp-F}
 use Rattle.qasm_tokens.specs.declared.token.PlacedToken.{PlacedToken}
 use Rattle.qasm_tokens.specs.declared.token.Token.{Token}
-use Rattle.qasm_tokens.specs.declared.token.Token.TheVariants as token
-use Rattle.qasm_tokens.specs.declared.token.Sign.TheVariants.{Comma, RightParenthesis}
+use Rattle.qasm_tokens.specs.declared.token.Sign.TheVariants.{RightParenthesis}
 use Rattle.qasm_read.specs.declared.tree.Tree.{Tree}
 use Rattle.qasm_read.specs.Forms.{Form, tokens_of, place_of}
-use Rattle.qasm_read.specs.Grammar.{Level, expression, term, factor, power, atom, sign_of, word_of, enclosed, Spells, real, whole, pi, named, applied, in_parentheses, negated, joined, an_atom, a_power, a_factor, a_term, nodes_of, is_small, an_expression}
-use Rattle.qasm_read.specs.Reading.{State, Reader, ◌>>=◌, comes, is_sign}
+use Rattle.qasm_read.specs.Grammar.{Level, expression, term, factor, power, atom, sign_of, word_of, Spells, real, whole, pi, named, applied, in_parentheses, negated, joined, an_atom, a_power, a_factor, a_term, nodes_of, is_small, an_expression}
+use Rattle.qasm_read.specs.Reading.{State, ◌>>=◌, comes, is_sign}
 use Rattle.qasm_read.specs.Expressions.{wanted, run, next_operator, tree_at, kept, exp_at}
-use Rattle.qasm_read.proofs.Readers.{at, bind_some, along, or-none, Took, Reads}
-use Rattle.qasm_read.proofs.Lists.{Avoids}
+use Rattle.qasm_read.proofs.Readers.{at, bind_some, along, or-none, Took}
 use Rattle.qasm_read.proofs.Images.{image}
 use Rattle.qasm_read.proofs.Climbing.{read_whole}
 use Rattle.qasm_read.proofs.Walking.{Got, walk_whole}
@@ -100,7 +98,7 @@ got_taken st tree rest g =
     let place : place_of st.placed ≡ place_of g.front = ap (λ (ps : List PlacedToken). place_of ps) g.parts ∙ same_place g.e g.front rest g.spells in
     let large : Option ℕ = cond (is_small g.e) None (place_of g.front) in
     let is : kept (place_of st.placed) (tree, at rest st.large) ≡ (cut g.e, at rest (option_or st.large large)) =
-        ap (λ (t : Option Tree). kept (place_of st.placed) (t, at rest st.large)) g.tree_is ∙ kept_is (place_of st.placed) g.e rest st.large ∙ ap (λ (o : Option ℕ). (cut g.e, at rest (option_or st.large (cond (is_small g.e) None o)))) place in
+    ap (λ (t : Option Tree). kept (place_of st.placed) (t, at rest st.large)) g.tree_is ∙ kept_is (place_of st.placed) g.e rest st.large ∙ ap (λ (o : Option ℕ). (cut g.e, at rest (option_or st.large (cond (is_small g.e) None o)))) place in
     subst (λ (x : Exp × State). Took (cut_expression x.0) st x.1) (sym is) (record { large = large; front = g.front; spelled = (g.e, (g.spells, refl), refl); parts = g.parts; marks = refl })
 
 exp_found : (st : State) (y : Exp) (after : State) → exp_at st ≡ Some (y, after) → Took (cut_expression y) st after

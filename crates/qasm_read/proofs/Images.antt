@@ -1,13 +1,12 @@
 -- The trees that stand for expressions while they are read.
-use Rattle.std.proofs.Common.{◌≡◌, ℕ, ◌+◌, ◌<◌, ◌≤◌, Bool, true, false, cond, leb, Option, Some, None, refl, sym, ap, subst, ◌∙◌, arith}
-use Rattle.std.proofs.lemmas.Bool.{leb-true, leb-false, lt-leb, le-leb}
+use Rattle.std.proofs.Common.{◌≡◌, ℕ, ◌+◌, ◌<◌, Bool, true, false, cond, leb, Option, Some, None, refl, sym, ap, ◌∙◌, arith}
+use Rattle.std.proofs.lemmas.Bool.{leb-false, lt-leb}
 use Rattle.circuit_core.specs.declared.words.BinOp.{BinOp}
 use Rattle.circuit_core.specs.declared.words.FunName.{FunName}
-use Rattle.qasm_read.specs.declared.exp.Exp.{Exp, fold-Exp, roll-Exp, fold-roll-Exp}
+use Rattle.qasm_read.specs.declared.exp.Exp.{Exp, roll-Exp, fold-roll-Exp}
 use Rattle.qasm_read.specs.declared.exp.Exp.TheOpen.{Exp-F}
-use Rattle.qasm_read.specs.declared.frame.Frame.{Frame}
 use Rattle.qasm_read.specs.declared.tree.Tree.{Tree}
-use Rattle.qasm_read.specs.Grammar.{nodes_of, nodes_step, is_small}
+use Rattle.qasm_read.specs.Grammar.{nodes_of, nodes_step}
 use Rattle.qasm_read.specs.Trees.{leaf, sized, negated, applied, joined}
 
 -- the tree of an expression, and none if it is large

@@ -1,15 +1,14 @@
 -- Readers of lists.
-use Rattle.std.proofs.Common.{◌≡◌, ℕ, zero, suc, ◌+◌, ◌<◌, ◌≤◌, Bool, true, false, not, cond, List, [], ◌∷◌, ◌++◌, length, Option, Some, None, refl, sym, ap, subst, ◌∙◌, append_assoc, arith, inl, inr}
+use Rattle.std.proofs.Common.{◌≡◌, ℕ, zero, suc, ◌<◌, ◌≤◌, Bool, true, false, cond, List, [], ◌∷◌, ◌++◌, length, Option, Some, None, refl, sym, ap, ◌∙◌, append_assoc, arith, inl, inr}
 use Rattle.std.specs.Option.{option_or}
-use Rattle.std.proofs.lemmas.Bool.{cond-true, cond-false}
-use Rattle.std.proofs.lemmas.List.{length-append, append-nil}
+use Rattle.std.proofs.lemmas.Bool.{cond-true}
+use Rattle.std.proofs.lemmas.List.{append-nil}
 use Rattle.qasm_tokens.specs.declared.token.PlacedToken.{PlacedToken}
-use Rattle.qasm_tokens.specs.declared.token.Token.{Token}
 use Rattle.qasm_tokens.specs.declared.token.Token.TheVariants as token
 use Rattle.qasm_tokens.specs.declared.token.Sign.{Sign}
 use Rattle.qasm_tokens.specs.declared.token.Sign.TheVariants.{Comma, LeftParenthesis, RightParenthesis}
-use Rattle.qasm_read.specs.Forms.{Form, Then, ◌▸◌, tokens_of, just, sign, each, commas, parameters}
-use Rattle.qasm_read.specs.Reading.{State, Reader, ◌>>=◌, comes, next_at, skip_at, with_front, repeat, repeat_at, commas_at, some_in_parentheses, within, parameters_at, made, behind, closed}
+use Rattle.qasm_read.specs.Forms.{Form, ◌▸◌, just, sign, each, commas, parameters}
+use Rattle.qasm_read.specs.Reading.{State, Reader, ◌>>=◌, comes, skip_at, with_front, repeat, repeat_at, commas_at, some_in_parentheses, within, parameters_at, made, behind, closed}
 use Rattle.qasm_read.proofs.Readers.{at, is_sign-same, bind_some, along, or-none, or_assoc, Took, Took-then, Took-not_longer, Reads, anything, one_token, reads_sign, reads_behind, reads_closed, Allows}
 
 -- ---- a reader takes a token at least
@@ -35,8 +34,8 @@ enough more read short zero (suc n) st p q = rw (none_at_end read short st p) re
 enough more read short (suc m) zero st p q = rw (none_at_end read short st q) refl
 enough more read short (suc m) (suc n) st p q =
     ap (λ r. cond (more st) r (Some ([], st)))
-      (same_bind (read st) (λ x. with_front (x.0 ∷ []) (repeat more read m x.1)) (λ x. with_front (x.0 ∷ []) (repeat more read n x.1))
-        (λ x e. ap (λ r. with_front (x.0 ∷ []) r) (enough more read short m n x.1 (omega (arith, short st x.0 x.1 e)) (omega (arith, short st x.0 x.1 e)))))
+    (same_bind (read st) (λ x. with_front (x.0 ∷ []) (repeat more read m x.1)) (λ x. with_front (x.0 ∷ []) (repeat more read n x.1))
+    (λ x e. ap (λ r. with_front (x.0 ∷ []) r) (enough more read short m n x.1 (omega (arith, short st x.0 x.1 e)) (omega (arith, short st x.0 x.1 e)))))
 
 -- one step
 pub repeat_is : {X : Type 0} (more : State → Bool) (read : Reader X) → Shortens read → (st : State) → repeat_at more read st ≡ cond (more st) (read st >>= λ x. with_front (x.0 ∷ []) (repeat_at more read x.1)) (Some ([], st))
@@ -44,8 +43,8 @@ unfolding repeat_at
 repeat_is more read short st =
     enough more read short (length st.placed) (suc (length st.placed)) st (omega arith) (omega arith)
     ∙ ap (λ r. cond (more st) r (Some ([], st)))
-        (same_bind (read st) (λ x. with_front (x.0 ∷ []) (repeat more read (length st.placed) x.1)) (λ x. with_front (x.0 ∷ []) (repeat more read (length x.1.placed) x.1))
-          (λ x e. ap (λ r. with_front (x.0 ∷ []) r) (enough more read short (length st.placed) (length x.1.placed) x.1 (omega (arith, short st x.0 x.1 e)) (omega arith))))
+    (same_bind (read st) (λ x. with_front (x.0 ∷ []) (repeat more read (length st.placed) x.1)) (λ x. with_front (x.0 ∷ []) (repeat more read (length x.1.placed) x.1))
+    (λ x e. ap (λ r. with_front (x.0 ∷ []) r) (enough more read short (length st.placed) (length x.1.placed) x.1 (omega (arith, short st x.0 x.1 e)) (omega arith))))
 
 -- ---- for the loops
 
@@ -80,8 +79,8 @@ repeat_found : {Y : Type 0} (more : State → Bool) (G : Y → Form) (g : Reader
 repeat_found more G g found zero st ys after e = at_last G st ys after (more st) None e (λ f. absurd cc)
 repeat_found more G g found (suc n) st ys after e =
     at_last G st ys after (more st) (g st >>= λ x. with_front (x.0 ∷ []) (repeat more g n x.1)) e
-      (λ f. let y = bind_some (g st) (λ x. with_front (x.0 ∷ []) (repeat more g n x.1)) (ys, after) f in
-        front_found G y.0.0 st y.0.1 (repeat more g n y.0.1) ys after (found st y.0.0 y.0.1 y.1) (λ zs end h. repeat_found more G g found n y.0.1 zs end h) y.2)
+    (λ f. let y = bind_some (g st) (λ x. with_front (x.0 ∷ []) (repeat more g n x.1)) (ys, after) f in
+    front_found G y.0.0 st y.0.1 (repeat more g n y.0.1) ys after (found st y.0.0 y.0.1 y.1) (λ zs end h. repeat_found more G g found n y.0.1 zs end h) y.2)
 
 -- When there is more, a member comes, and it may be followed by another member or by the end.
 pub record Goes {Y : Type 0} (more : State → Bool) (G : Y → Form) (EndG End : List PlacedToken → Type 0) : Type 0 where
@@ -160,8 +159,8 @@ commas_front {X} F x st mid r ys after first rest e =
 pub reads_commas : {X : Type 0} (F : X → Form) (EndF : List PlacedToken → Type 0) (f : Reader X) → Reads F EndF f → Allows EndF Comma → Reads (commas F) (both EndF (without Comma)) (commas_at f)
 reads_commas F EndF f rf allows = record {
   found = λ st xs after e.
-    let x = bind_some (f st) (λ x. with_front (x.0 ∷ []) (repeat_at (comes Comma) (behind Comma f) x.1)) (xs, after) e in
-    commas_front F x.0.0 st x.0.1 (repeat_at (comes Comma) (behind Comma f) x.0.1) xs after (rf.found st x.0.0 x.0.1 x.1) (λ zs end h. (reads_tail F EndF f rf allows).found x.0.1 zs end h) x.2;
+      let x = bind_some (f st) (λ x. with_front (x.0 ∷ []) (repeat_at (comes Comma) (behind Comma f) x.1)) (xs, after) e in
+      commas_front F x.0.0 st x.0.1 (repeat_at (comes Comma) (behind Comma f) x.0.1) xs after (rf.found st x.0.0 x.0.1 x.1) (λ zs end h. (reads_tail F EndF f rf allows).found x.0.1 zs end h) x.2;
   only = λ xs large before front rest t end. commas_only F EndF f rf allows xs large before front rest t end;
 }
 

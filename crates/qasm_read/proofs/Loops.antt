@@ -1,5 +1,5 @@
 -- What the loops over members behind commas do.
-use Rattle.std.proofs.Common.{◌≡◌, ℕ, ◌<◌, true, false, List, [], ◌∷◌, ◌++◌, length, Option, Some, None, Result, Ok, Err, refl, sym, ◌∙◌}
+use Rattle.std.proofs.Common.{◌≡◌, true, List, [], ◌∷◌, ◌++◌, Option, Some, None, Result, Err, refl}
 use Rattle.std.specs.Prelude.{IsErrAnd}
 use Rattle.std.proofs.lemmas.Result.{err_from_is_err_and}
 use Rattle.qasm_read.specs.declared.stop.Stop.{Stop}
@@ -7,10 +7,10 @@ use Rattle.qasm_read.specs.declared.stop.Stop.TheVariants.{NoMemory, OtherForm}
 use Rattle.qasm_tokens.specs.declared.token.Sign.TheVariants.{Comma}
 use Rattle.qasm_read.specs.Grammar.{argument, body_item}
 use Rattle.qasm_read.specs.Forms.{name}
-use Rattle.qasm_read.specs.Reading.{State, Reader, Gives, ◌>>=◌, comes, skip_at, behind, with_front, repeat_at, name_at, argument_at, body_item_at}
+use Rattle.qasm_read.specs.Reading.{State, Reader, Gives, comes, skip_at, behind, with_front, repeat_at, name_at, argument_at, body_item_at}
 use Rattle.qasm_read.specs.Expressions.{exp_at}
 use Rattle.qasm_read.proofs.Readers.{anything, reads_name}
-use Rattle.qasm_read.proofs.Lists.{Shortens, Shortens-behind, repeat_more, repeat_none, repeat_end}
+use Rattle.qasm_read.proofs.Lists.{Shortens, Shortens-behind, repeat_more, repeat_none}
 use Rattle.qasm_read.proofs.Arguments.{reads_argument}
 use Rattle.qasm_read.proofs.StatementLaws.{Shortens-takes, reads_item, item_takes}
 use Rattle.qasm_read.proofs.ExpressionLaws.{cut_expression, reads_expressions}

@@ -1,13 +1,8 @@
 -- Programs that are read.
-use Rattle.std.proofs.Common.{◌≡◌, ℕ, ◌+◌, ◌<◌, ◌≤◌, Bool, true, false, cond, List, [], ◌∷◌, ◌++◌, length, Option, Some, None, Result, Ok, Err, refl, sym, ap, subst, ◌∙◌, append_assoc, arith, inl, inr}
+use Rattle.std.proofs.Common.{◌≡◌, ℕ, ◌<◌, Bool, true, false, cond, List, [], ◌∷◌, ◌++◌, length, Option, Some, None, Result, Ok, Err, refl, sym, ap, subst, ◌∙◌, append_assoc, arith}
 use Rattle.std.specs.Option.{option_or}
 use Rattle.std.proofs.lemmas.List.{length-append, append-nil}
-use Rattle.qasm_read.specs.declared.arg.Arg.{Arg}
-use Rattle.qasm_read.specs.declared.body_item.BodyItem.{BodyItem}
-use Rattle.qasm_read.specs.declared.body_item.BodyItem.TheVariants as item
-use Rattle.qasm_read.specs.declared.exp.Exp.{Exp, roll-Exp}
-use Rattle.qasm_read.specs.declared.exp.Exp.TheOpen.{Exp-F}
-use Rattle.qasm_read.specs.declared.qop.Qop.{Qop}
+use Rattle.qasm_read.specs.declared.exp.Exp.{Exp}
 use Rattle.qasm_read.specs.declared.qop.Qop.TheVariants as operation
 use Rattle.qasm_read.specs.declared.statement.Statement.{Statement}
 use Rattle.qasm_read.specs.declared.statement.Statement.TheVariants as statement
@@ -17,9 +12,8 @@ use Rattle.qasm_tokens.specs.declared.token.Token.TheVariants as token
 use Rattle.qasm_tokens.specs.declared.token.Keyword.TheVariants as word
 use Rattle.qasm_tokens.specs.declared.token.Sign.TheVariants.{Semicolon, Comma, LeftParenthesis, RightParenthesis, LeftBrace, RightBrace, Arrow, Equals}
 use Rattle.qasm_read.specs.Forms.{Form, Then, ◌▸◌, tokens_of, place_of, just, sign, name, integer, text, each, commas, parameters}
-use Rattle.qasm_read.specs.Grammar.{expression, Spells, is_small, an_expression, index, argument, formals, some_expressions, body_item, qop, a_statement}
+use Rattle.qasm_read.specs.Grammar.{an_expression, index, argument, formals, some_expressions, body_item, qop, a_statement}
 use Rattle.std.proofs.lemmas.Slice.Eq.{bytes_eq-Decides}
-
 use Rattle.std.specs.Prelude.{codes}
 use Rattle.std.specs.Str.{bytes_eq}
 use Rattle.qasm_read.specs.declared.fault.QasmFault.{QasmFault}
@@ -27,11 +21,11 @@ use Rattle.qasm_read.specs.declared.fault.QasmFault.TheVariants.{Header, Large, 
 use Rattle.qasm_read.specs.declared.statement.Placed.{Placed}
 use Rattle.qasm_read.specs.declared.stop.Stop.{Stop}
 use Rattle.qasm_read.specs.declared.stop.Stop.TheVariants as stop
-use Rattle.qasm_read.specs.Reading.{Gives, State, Reader, ◌>>=◌, next_at, pair, closed, opening_in, opening_at, version_in, version_at, header_at, statement_at}
+use Rattle.qasm_read.specs.Reading.{Gives, State, ◌>>=◌, pair, closed, opening_in, opening_at, version_in, version_at, header_at, statement_at}
 use Rattle.qasm_read.specs.Forms as forms
 use Rattle.qasm_read.specs.Expressions.{exp_at}
 use Rattle.qasm_read.specs.Program.{header, a_placed_statement, Begins, NoStatementBegins, LongestRun, verdict, AnswersBehind, Answers, UnlessMemory}
-use Rattle.qasm_read.proofs.Readers.{at, bind_some, some_is, along, single, reads_pair, reads_closed, Took, Took-then, Reads, anything, or-none, or_assoc}
+use Rattle.qasm_read.proofs.Readers.{at, bind_some, some_is, along, single, reads_pair, reads_closed, Took, Reads, anything, or-none, or_assoc}
 use Rattle.qasm_read.proofs.Lists.{Shortens}
 use Rattle.qasm_read.proofs.StatementLaws.{Shortens-takes, Takes, first_takes, reads_statement}
 use Rattle.qasm_read.proofs.ExpressionLaws.{cut_expression, reads_expressions}
@@ -85,8 +79,8 @@ reads_version = single (λ u. token.Real (codes "2.0")) version_in (λ u st. ref
 
 reads_header : Reads (λ (p : Unit {0} × Unit {0}). header) anything (pair opening_at (closed Semicolon version_at))
 reads_header = reads_pair (λ (u : Unit {0}). forms.word word.OpenQasm) (λ (u : Unit {0}). forms.real (codes "2.0") ▸ sign Semicolon) anything anything opening_at (closed Semicolon version_at) reads_opening
-  (reads_closed Semicolon (λ (u : Unit {0}). forms.real (codes "2.0")) anything version_at reads_version (λ p rest e. tt))
-  (λ u large back rest t end. tt)
+    (reads_closed Semicolon (λ (u : Unit {0}). forms.real (codes "2.0")) anything version_at reads_version (λ p rest e. tt))
+    (λ u large back rest t end. tt)
 
 -- nothing in a header is large
 header_small : (large : Option ℕ) (front : List PlacedToken) → header large front → large ≡ None
@@ -98,7 +92,7 @@ header_found st u after fresh e =
     let t = reads_header.found st x.0.0 x.0.1 x.1 in
     let small = header_small t.large t.front t.spelled in
     along (λ (q : Unit {0} × State). (q.1.large ≡ None) × Begins header None st.placed q.1.placed) (tt, x.0.1) (u, after) x.2
-      (t.marks ∙ ap (λ o. option_or o t.large) fresh ∙ small, record { front = t.front; spelled = subst (λ o. header o t.front) small t.spelled; parts = t.parts })
+    (t.marks ∙ ap (λ o. option_or o t.large) fresh ∙ small, record { front = t.front; spelled = subst (λ o. header o t.front) small t.spelled; parts = t.parts })
 
 pub header_reads : (front behind : List PlacedToken) (large : Option ℕ) → header None front → header_at (at (front ++ behind) large) ≡ Some (tt, at behind (option_or large None))
 header_reads front behind large t = ap (λ (o : Option ((Unit {0} × Unit {0}) × State)). o >>= λ x. Some (tt, x.1)) (reads_header.only (tt, tt) None large front behind t tt)

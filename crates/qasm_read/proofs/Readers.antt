@@ -1,16 +1,16 @@
 -- Readers that read a form, and how they are put together.
-use Rattle.std.proofs.Common.{◌≡◌, ℕ, zero, suc, ◌+◌, ◌<◌, ◌≤◌, Bool, true, false, cond, List, [], ◌∷◌, ◌++◌, length, get_or, eqb, Option, Some, None, refl, sym, ap, subst, ◌∙◌, append_assoc, arith, inl, inr}
+use Rattle.std.proofs.Common.{◌≡◌, ℕ, ◌≤◌, true, List, [], ◌∷◌, ◌++◌, length, get_or, eqb, Option, Some, None, refl, sym, ap, subst, ◌∙◌, append_assoc, arith}
 use Rattle.std.specs.Option.{option_or}
 use Rattle.std.proofs.lemmas.Bool.{eqb-true, eq-eqb}
-use Rattle.std.proofs.lemmas.List.{length-append, append-nil}
+use Rattle.std.proofs.lemmas.List.{length-append}
 use Rattle.std.proofs.lemmas.Option.{cond_some}
 use Rattle.qasm_tokens.specs.declared.token.PlacedToken.{PlacedToken}
 use Rattle.qasm_tokens.specs.declared.token.Token.{Token}
 use Rattle.qasm_tokens.specs.declared.token.Token.TheVariants as token
 use Rattle.qasm_tokens.specs.declared.token.Sign.{Sign}
 use Rattle.qasm_tokens.specs.declared.token.Sign.TheVariants.{Semicolon, Comma, LeftParenthesis, RightParenthesis, LeftBracket, RightBracket, LeftBrace, RightBrace, Plus, Minus, Star, Slash, Caret, Arrow, Equals}
-use Rattle.qasm_read.specs.Forms.{Form, Then, ◌▸◌, tokens_of, just, sign, name, integer, text}
-use Rattle.qasm_read.specs.Reading.{State, Reader, ◌>>=◌, number_of, is_sign, comes, next_at, skip_at, name_in, name_at, integer_in, integer_at, text_in, text_at, made, pair, behind, closed}
+use Rattle.qasm_read.specs.Forms.{Form, ◌▸◌, tokens_of, just, sign, name, integer, text}
+use Rattle.qasm_read.specs.Reading.{State, Reader, ◌>>=◌, number_of, is_sign, next_at, skip_at, name_in, name_at, integer_in, integer_at, text_in, text_at, pair, behind, closed}
 
 abbrev pub at : List PlacedToken → Option ℕ → State
 at placed large = record { placed = placed; large = large }
@@ -176,21 +176,21 @@ Joins {Y} EndA G End = (y : Y) (large : Option ℕ) (back rest : List PlacedToke
 pub reads_pair : {X Y : Type 0} (F : X → Form) (G : Y → Form) (EndF End : List PlacedToken → Type 0) (f : Reader X) (g : Reader Y) → Reads F EndF f → Reads G End g → Joins EndF G End → Reads (λ (p : X × Y). F p.0 ▸ G p.1) End (pair f g)
 reads_pair {X} {Y} F G EndF End f g rf rg joins = record {
   found = λ st p after e.
-    let x = bind_some (f st) (λ x. g x.1 >>= λ y. Some ((x.0, y.0), y.1)) (p, after) e in
-    let y = bind_some (g x.0.1) (λ y. Some ((x.0.0, y.0), y.1)) (p, after) x.2 in
-    let both = Took-then (F x.0.0) (G y.0.0) st x.0.1 y.0.1 (rf.found st x.0.0 x.0.1 x.1) (rg.found x.0.1 y.0.0 y.0.1 y.1) in
-    along (λ (r : (X × Y) × State). Took (F r.0.0 ▸ G r.0.1) st r.1) ((x.0.0, y.0.0), y.0.1) (p, after) y.2 both;
+      let x = bind_some (f st) (λ x. g x.1 >>= λ y. Some ((x.0, y.0), y.1)) (p, after) e in
+      let y = bind_some (g x.0.1) (λ y. Some ((x.0.0, y.0), y.1)) (p, after) x.2 in
+      let both = Took-then (F x.0.0) (G y.0.0) st x.0.1 y.0.1 (rf.found st x.0.0 x.0.1 x.1) (rg.found x.0.1 y.0.0 y.0.1 y.1) in
+      along (λ (r : (X × Y) × State). Took (F r.0.0 ▸ G r.0.1) st r.1) ((x.0.0, y.0.0), y.0.1) (p, after) y.2 both;
   only = λ p large before front rest t end.
-    rw (t.parts, append_assoc, t.earlier, ← or_assoc) (rw (rf.only p.0 t.large_front before t.front (t.back ++ rest) t.first (joins p.1 t.large_back t.back rest t.second end)) (rw (rg.only p.1 t.large_back (option_or before t.large_front) t.back rest t.second end) refl));
+      rw (t.parts, append_assoc, t.earlier, ← or_assoc) (rw (rf.only p.0 t.large_front before t.front (t.back ++ rest) t.first (joins p.1 t.large_back t.back rest t.second end)) (rw (rg.only p.1 t.large_back (option_or before t.large_front) t.back rest t.second end) refl));
 }
 
 pub reads_behind : {X : Type 0} (s : Sign) (F : X → Form) (End : List PlacedToken → Type 0) (f : Reader X) → Reads F End f → Reads (λ x. sign s ▸ F x) End (behind s f)
 reads_behind {X} s F End f rf = record {
   found = λ st x after e.
-    let u = bind_some (skip_at s st) (λ u. f u.1) (x, after) e in
-    Took-then (sign s) (F x) st u.0.1 after ((reads_sign s).found st u.0.0 u.0.1 u.1) (rf.found u.0.1 x after u.2);
+      let u = bind_some (skip_at s st) (λ u. f u.1) (x, after) e in
+      Took-then (sign s) (F x) st u.0.1 after ((reads_sign s).found st u.0.0 u.0.1 u.1) (rf.found u.0.1 x after u.2);
   only = λ x large before front rest t end.
-    rw (t.parts, append_assoc, t.earlier, ← or_assoc) (rw ((reads_sign s).only tt t.large_front before t.front (t.back ++ rest) t.first tt) (rf.only x t.large_back (option_or before t.large_front) t.back rest t.second end));
+      rw (t.parts, append_assoc, t.earlier, ← or_assoc) (rw ((reads_sign s).only tt t.large_front before t.front (t.back ++ rest) t.first tt) (rf.only x t.large_back (option_or before t.large_front) t.back rest t.second end));
 }
 
 -- a sign ends a form that it may follow
@@ -200,12 +200,12 @@ Allows End s = (p : PlacedToken) (rest : List PlacedToken) → p.token ≡ token
 pub reads_closed : {X : Type 0} (s : Sign) (F : X → Form) (End : List PlacedToken → Type 0) (f : Reader X) → Reads F End f → Allows End s → Reads (λ x. F x ▸ sign s) anything (closed s f)
 reads_closed {X} s F End f rf allows = record {
   found = λ st p after e.
-    let x = bind_some (f st) (λ x. skip_at s x.1 >>= λ y. Some (x.0, y.1)) (p, after) e in
-    let y = bind_some (skip_at s x.0.1) (λ y. Some (x.0.0, y.1)) (p, after) x.2 in
-    let both = Took-then (F x.0.0) (sign s) st x.0.1 y.0.1 (rf.found st x.0.0 x.0.1 x.1) ((reads_sign s).found x.0.1 y.0.0 y.0.1 y.1) in
-    along (λ (r : X × State). Took (F r.0 ▸ sign s) st r.1) (x.0.0, y.0.1) (p, after) y.2 both;
+      let x = bind_some (f st) (λ x. skip_at s x.1 >>= λ y. Some (x.0, y.1)) (p, after) e in
+      let y = bind_some (skip_at s x.0.1) (λ y. Some (x.0.0, y.1)) (p, after) x.2 in
+      let both = Took-then (F x.0.0) (sign s) st x.0.1 y.0.1 (rf.found st x.0.0 x.0.1 x.1) ((reads_sign s).found x.0.1 y.0.0 y.0.1 y.1) in
+      along (λ (r : X × State). Took (F r.0 ▸ sign s) st r.1) (x.0.0, y.0.1) (p, after) y.2 both;
   only = λ p large before front rest t end.
-    let o = one_token (token.Sign s) t.back t.second.1 in
-    let allowed : End (t.back ++ rest) = rw o.1 (allows o.0 rest o.2) in
-    rw (t.parts, append_assoc, t.earlier, ← or_assoc) (rw (rf.only p t.large_front before t.front (t.back ++ rest) t.first allowed) (rw ((reads_sign s).only tt t.large_back (option_or before t.large_front) t.back rest t.second tt) refl));
+      let o = one_token (token.Sign s) t.back t.second.1 in
+      let allowed : End (t.back ++ rest) = rw o.1 (allows o.0 rest o.2) in
+      rw (t.parts, append_assoc, t.earlier, ← or_assoc) (rw (rf.only p t.large_front before t.front (t.back ++ rest) t.first allowed) (rw ((reads_sign s).only tt t.large_back (option_or before t.large_front) t.back rest t.second tt) refl));
 }

@@ -1,5 +1,5 @@
 -- Steps of reading an expression.
-use Rattle.std.proofs.Common.{◌≡◌, ℕ, suc, ◌<◌, ◌≤◌, Bool, true, false, cond, List, [], ◌∷◌, ◌++◌, length, Option, Some, None, Result, Ok, Err, nat_le, refl, sym, ap, subst, ◌∙◌, arith}
+use Rattle.std.proofs.Common.{◌≡◌, ℕ, ◌<◌, Bool, true, false, cond, List, [], ◌∷◌, length, Option, Some, None, Result, Ok, Err, nat_le, refl, sym, ap, subst, ◌∙◌, arith}
 use Rattle.std.specs.Prelude.{IsErrAnd}
 use Rattle.std.proofs.lemmas.Option.{cond_some}
 use Rattle.std.proofs.lemmas.Result.{err_from_is_err_and}
@@ -17,7 +17,7 @@ use Rattle.qasm_tokens.specs.declared.token.Token.{Token}
 use Rattle.qasm_tokens.specs.declared.token.Sign.{Sign}
 use Rattle.qasm_tokens.specs.declared.token.Sign.TheVariants.{LeftParenthesis, RightParenthesis}
 use Rattle.qasm_read.specs.declared.tree.Tree.{Tree}
-use Rattle.qasm_read.specs.Reading.{Gives, State, ◌>>=◌, is_sign, next_at, skip_at}
+use Rattle.qasm_read.specs.Reading.{Gives, State, is_sign, next_at, skip_at}
 use Rattle.qasm_read.specs.Trees.{leaf}
 use Rattle.qasm_read.specs.Frames.{strength_of, hold_of, put_in, taken, reduced}
 use Rattle.qasm_read.specs.Starts.{start_of, operator_of}
@@ -85,11 +85,11 @@ Outcome = Option (Option Tree × List PlacedToken)
 
 abbrev pub begun : List PlacedToken → List Frame → Start → Outcome
 begun rest frames s = elim s [
-    | start.Frame f ↦ run rest (wanted (f ∷ frames))
-    | start.Function f ↦ run rest (opening f frames)
-    | start.Whole e ↦ run rest (there frames (leaf e))
-    | start.Nothing ↦ None
-  ]
+  | start.Frame f ↦ run rest (wanted (f ∷ frames))
+  | start.Function f ↦ run rest (opening f frames)
+  | start.Whole e ↦ run rest (there frames (leaf e))
+  | start.Nothing ↦ None
+]
 
 pub wanted_is : (p : PlacedToken) (rest : List PlacedToken) (frames : List Frame) → run (p ∷ rest) (wanted frames) ≡ begun rest frames (start_of p.token)
 unfolding run
@@ -137,15 +137,15 @@ wanted_unopened st mid t f frames e s skipped = wanted_step st mid t (start.Func
 
 abbrev pub closing : PlacedToken → List PlacedToken → List Frame × Option Tree → Outcome
 closing p rest x = elim x.0 [
-    | [] ↦ Some (x.1, p ∷ rest)
-    | f ∷ outer ↦ cond (is_sign RightParenthesis p.token) (run rest (there outer (put_in f x.1))) None
-  ]
+  | [] ↦ Some (x.1, p ∷ rest)
+  | f ∷ outer ↦ cond (is_sign RightParenthesis p.token) (run rest (there outer (put_in f x.1))) None
+]
 
 abbrev pub followed : PlacedToken → List PlacedToken → List Frame → Option Tree → Option BinOp → Outcome
 followed p rest frames tree o = elim o [
-    | Some op ↦ run rest (wanted (Left op (reduced (strength_of op) frames tree).1 ∷ (reduced (strength_of op) frames tree).0))
-    | None ↦ closing p rest (reduced 1 frames tree)
-  ]
+  | Some op ↦ run rest (wanted (Left op (reduced (strength_of op) frames tree).1 ∷ (reduced (strength_of op) frames tree).0))
+  | None ↦ closing p rest (reduced 1 frames tree)
+]
 
 pub there_is : (p : PlacedToken) (rest : List PlacedToken) (frames : List Frame) (tree : Option Tree) → run (p ∷ rest) (there frames tree) ≡ followed p rest frames tree (operator_of p.token)
 unfolding run

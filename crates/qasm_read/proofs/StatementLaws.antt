@@ -1,7 +1,6 @@
 -- The readers of statements read the statements.
-use Rattle.std.proofs.Common.{◌≡◌, ℕ, zero, suc, ◌+◌, ◌<◌, ◌≤◌, Bool, true, false, not, cond, List, [], ◌∷◌, ◌++◌, length, Option, Some, None, refl, sym, ap, subst, ◌∙◌, append_assoc, arith, inl, inr}
+use Rattle.std.proofs.Common.{◌≡◌, ℕ, ◌<◌, true, false, not, List, [], ◌∷◌, ◌++◌, length, Option, Some, None, refl, ap, ◌∙◌, append_assoc, arith}
 use Rattle.std.specs.Option.{option_or}
-use Rattle.std.proofs.lemmas.Bool.{cond-true, cond-false}
 use Rattle.std.proofs.lemmas.List.{length-append}
 use Rattle.qasm_read.specs.declared.arg.Arg.{Arg}
 use Rattle.qasm_read.specs.declared.body_item.BodyItem.{BodyItem}
@@ -14,16 +13,15 @@ use Rattle.qasm_read.specs.declared.statement.Statement.TheVariants as statement
 use Rattle.qasm_tokens.specs.declared.token.PlacedToken.{PlacedToken}
 use Rattle.qasm_tokens.specs.declared.token.Token.{Token}
 use Rattle.qasm_tokens.specs.declared.token.Token.TheVariants as token
-use Rattle.qasm_tokens.specs.declared.token.Keyword.{Keyword}
 use Rattle.qasm_tokens.specs.declared.token.Keyword.TheVariants as word
 use Rattle.qasm_tokens.specs.declared.token.Sign.{Sign}
-use Rattle.qasm_tokens.specs.declared.token.Sign.TheVariants.{Semicolon, Comma, LeftParenthesis, RightParenthesis, LeftBracket, RightBracket, LeftBrace, RightBrace, Arrow, Equals}
-use Rattle.qasm_read.specs.Forms.{Form, Then, ◌▸◌, tokens_of, just, sign, name, integer, text, each, commas, parameters}
+use Rattle.qasm_tokens.specs.declared.token.Sign.TheVariants.{Semicolon, Comma, LeftParenthesis, RightParenthesis, LeftBracket, LeftBrace, RightBrace, Arrow, Equals}
+use Rattle.qasm_read.specs.Forms.{Form, ◌▸◌, just, sign, name, integer, text, each, commas, parameters}
 use Rattle.qasm_read.specs.Grammar.{index, argument, formals, some_expressions, body_item, qop, a_statement}
-use Rattle.qasm_read.specs.Reading.{is_sign, State, Reader, ◌>>=◌, comes, next_at, skip_at, name_at, integer_at, text_at, with_front, repeat, repeat_at, commas_at, some_in_parentheses, parameters_at, made, pair, behind, closed, index_at, argument_at, formals_at, body_item_in, body_item_at, body_at, qop_in, qop_at, include_at, register_at, gate_at, opaque_at, barrier_at, condition_at, statement_in, statement_at}
-use Rattle.qasm_read.proofs.Readers.{at, is_sign-same, bind_some, along, or-none, or_assoc, Took, Took-then, took_one, Took-not_longer, Reads, anything, one_token, reads_sign, reads_name, reads_integer, reads_text, reads_pair, reads_behind, reads_closed, Allows, Joins}
-use Rattle.qasm_read.proofs.Lists.{sign_allowed, Shortens, without, both, Avoids, Goes, reads_repeat, reads_commas, reads_some, reads_parameters}
-use Rattle.qasm_read.proofs.Arguments.{sign_comes, reads_index, reads_argument, name_avoids, argument_avoids, commas_avoid, closed_avoids, names_end, reads_names, arguments_end, reads_arguments, reads_formals, Behind, behind_token, by_first_found, by_first_only, made_found, made_only}
+use Rattle.qasm_read.specs.Reading.{is_sign, State, Reader, ◌>>=◌, comes, next_at, name_at, integer_at, text_at, commas_at, some_in_parentheses, parameters_at, made, pair, behind, closed, index_at, argument_at, formals_at, body_item_in, body_item_at, body_at, qop_in, qop_at, statement_in, statement_at}
+use Rattle.qasm_read.proofs.Readers.{at, bind_some, along, Reads, anything, one_token, reads_name, reads_integer, reads_text, reads_pair, reads_behind, reads_closed, Allows, Joins}
+use Rattle.qasm_read.proofs.Lists.{sign_allowed, Shortens, without, Avoids, Goes, reads_repeat, reads_some, reads_parameters}
+use Rattle.qasm_read.proofs.Arguments.{reads_index, reads_argument, name_avoids, argument_avoids, commas_avoid, closed_avoids, names_end, reads_names, arguments_end, reads_arguments, reads_formals, Behind, behind_token, by_first_found, by_first_only, made_found, made_only}
 
 -- what is asked of the reader of expressions
 pub record ReadsExpressions (E : Exp → Form) (End : List PlacedToken → Type 0) (exp : Reader Exp) : Type 0 where
@@ -59,7 +57,7 @@ item_cx = reads_pair name (λ n. sign Comma ▸ name n ▸ sign Semicolon) anyth
 
 item_call : {E : Exp → Form} {End : List PlacedToken → Type 0} {exp : Reader Exp} → ReadsExpressions E End exp → Reads (λ (p : List Exp × List (List ℕ)). parameters E p.0 ▸ commas name p.1 ▸ sign Semicolon) anything (pair (parameters_at exp) (closed Semicolon (commas_at name_at)))
 item_call {E} {End} {exp} re = reads_pair (parameters E) (λ ns. commas name ns ▸ sign Semicolon) (without LeftParenthesis) anything (parameters_at exp) (closed Semicolon (commas_at name_at)) (actuals re) closed_names
-  (λ ns large back rest t end. closed_avoids (commas name) LeftParenthesis Semicolon (commas_avoid name LeftParenthesis (name_avoids LeftParenthesis)) ns large back rest t)
+    (λ ns large back rest t end. closed_avoids (commas name) LeftParenthesis Semicolon (commas_avoid name LeftParenthesis (name_avoids LeftParenthesis)) ns large back rest t)
 
 item_found : {E : Exp → Form} {End : List PlacedToken → Type 0} {exp : Reader Exp} → ReadsExpressions E End exp → (t : Token) (st : State) (i : BodyItem) (after : State) → body_item_in exp t st ≡ Some (i, after) → Behind t (body_item E i) st after
 item_found {E} {End} {exp} re (token.Keyword word.U) st i after e = made_found (λ p. item.U p.0 p.1) (body_item E) (λ (p : List Exp × List ℕ). some_expressions E p.0 ▸ name p.1 ▸ sign Semicolon) anything (pair (some_in_parentheses exp) (closed Semicolon name_at)) (token.Keyword word.U) (item_u re) (λ p st after h. behind_token (token.Keyword word.U) (some_expressions E p.0 ▸ name p.1 ▸ sign Semicolon) st after h) st i after e
@@ -91,15 +89,15 @@ closed_arguments = reads_closed Semicolon (commas argument) arguments_end (comma
 -- an argument, that sign, and another argument
 two_arguments : (s : Sign) → Allows (without LeftBracket) s → Reads (λ (p : Arg × Arg). argument p.0 ▸ sign s ▸ argument p.1 ▸ sign Semicolon) anything (pair argument_at (behind s (closed Semicolon argument_at)))
 two_arguments s allows = reads_pair argument (λ a. sign s ▸ argument a ▸ sign Semicolon) (without LeftBracket) anything argument_at (behind s (closed Semicolon argument_at)) reads_argument
-  (reads_behind s (λ a. argument a ▸ sign Semicolon) anything (closed Semicolon argument_at) closed_argument)
-  (λ a large back rest t end. rw (t.parts, append_assoc) (sign_allowed (without LeftBracket) s allows t.large_front t.front (t.back ++ rest) t.first))
+    (reads_behind s (λ a. argument a ▸ sign Semicolon) anything (closed Semicolon argument_at) closed_argument)
+    (λ a large back rest t end. rw (t.parts, append_assoc) (sign_allowed (without LeftBracket) s allows t.large_front t.front (t.back ++ rest) t.first))
 
 qop_u : {E : Exp → Form} {End : List PlacedToken → Type 0} {exp : Reader Exp} → ReadsExpressions E End exp → Reads (λ (p : List Exp × Arg). some_expressions E p.0 ▸ argument p.1 ▸ sign Semicolon) anything (pair (some_in_parentheses exp) (closed Semicolon argument_at))
 qop_u {E} {End} {exp} re = reads_pair (some_expressions E) (λ a. argument a ▸ sign Semicolon) anything anything (some_in_parentheses exp) (closed Semicolon argument_at) (some_actuals re) closed_argument (no_end (λ a. argument a ▸ sign Semicolon) anything)
 
 qop_call : {E : Exp → Form} {End : List PlacedToken → Type 0} {exp : Reader Exp} → ReadsExpressions E End exp → Reads (λ (p : List Exp × List Arg). parameters E p.0 ▸ commas argument p.1 ▸ sign Semicolon) anything (pair (parameters_at exp) (closed Semicolon (commas_at argument_at)))
 qop_call {E} {End} {exp} re = reads_pair (parameters E) (λ xs. commas argument xs ▸ sign Semicolon) (without LeftParenthesis) anything (parameters_at exp) (closed Semicolon (commas_at argument_at)) (actuals re) closed_arguments
-  (λ xs large back rest t end. closed_avoids (commas argument) LeftParenthesis Semicolon (commas_avoid argument LeftParenthesis (argument_avoids LeftParenthesis)) xs large back rest t)
+    (λ xs large back rest t end. closed_avoids (commas argument) LeftParenthesis Semicolon (commas_avoid argument LeftParenthesis (argument_avoids LeftParenthesis)) xs large back rest t)
 
 qop_found : {E : Exp → Form} {End : List PlacedToken → Type 0} {exp : Reader Exp} → ReadsExpressions E End exp → (t : Token) (st : State) (i : Qop) (after : State) → qop_in exp t st ≡ Some (i, after) → Behind t (qop E i) st after
 qop_found {E} {End} {exp} re (token.Keyword word.U) st i after e = made_found (λ p. operation.U p.0 p.1) (qop E) (λ (p : List Exp × Arg). some_expressions E p.0 ▸ argument p.1 ▸ sign Semicolon) anything (pair (some_in_parentheses exp) (closed Semicolon argument_at)) (token.Keyword word.U) (qop_u re) (λ p st after h. behind_token (token.Keyword word.U) (some_expressions E p.0 ▸ argument p.1 ▸ sign Semicolon) st after h) st i after e
@@ -172,8 +170,8 @@ reads_body {E} {End} {exp} re = reads_repeat (λ st. not (comes RightBrace st)) 
 
 opaque_form : Reads (λ (p : List ℕ × (List (List ℕ) × List (List ℕ))). name p.0 ▸ formals p.1.0 p.1.1 ▸ sign Semicolon) anything (pair name_at (closed Semicolon formals_at))
 opaque_form = reads_pair name (λ (p : List (List ℕ) × List (List ℕ)). formals p.0 p.1 ▸ sign Semicolon) anything anything name_at (closed Semicolon formals_at) reads_name
-  (reads_closed Semicolon (λ (p : List (List ℕ) × List (List ℕ)). formals p.0 p.1) names_end formals_at reads_formals (λ p rest e. (tt, rw e refl)))
-  (no_end (λ (p : List (List ℕ) × List (List ℕ)). formals p.0 p.1 ▸ sign Semicolon) anything)
+    (reads_closed Semicolon (λ (p : List (List ℕ) × List (List ℕ)). formals p.0 p.1) names_end formals_at reads_formals (λ p rest e. (tt, rw e refl)))
+    (no_end (λ (p : List (List ℕ) × List (List ℕ)). formals p.0 p.1 ▸ sign Semicolon) anything)
 
 register_form : Reads (λ (p : List ℕ × ℕ). name p.0 ▸ index p.1 ▸ sign Semicolon) anything (pair name_at (closed Semicolon index_at))
 register_form = reads_pair name (λ n. index n ▸ sign Semicolon) anything anything name_at (closed Semicolon index_at) reads_name (reads_closed Semicolon index anything index_at reads_index (λ p rest e. tt)) (no_end (λ n. index n ▸ sign Semicolon) anything)
@@ -186,9 +184,9 @@ braces {E} {End} {exp} re = reads_behind LeftBrace (λ items. each (body_item E)
 
 gate_form : {E : Exp → Form} {End : List PlacedToken → Type 0} {exp : Reader Exp} → ReadsExpressions E End exp → Reads (λ (p : List ℕ × (Formals × List BodyItem)). name p.0 ▸ formals p.1.0.0 p.1.0.1 ▸ sign LeftBrace ▸ each (body_item E) p.1.1 ▸ sign RightBrace) anything (pair name_at (pair formals_at (behind LeftBrace (closed RightBrace (body_at exp)))))
 gate_form {E} {End} {exp} re = reads_pair name (λ (p : Formals × List BodyItem). formals p.0.0 p.0.1 ▸ sign LeftBrace ▸ each (body_item E) p.1 ▸ sign RightBrace) anything anything name_at (pair formals_at (behind LeftBrace (closed RightBrace (body_at exp)))) reads_name
-  (reads_pair (λ (p : Formals). formals p.0 p.1) (λ items. sign LeftBrace ▸ each (body_item E) items ▸ sign RightBrace) names_end anything formals_at (behind LeftBrace (closed RightBrace (body_at exp))) reads_formals (braces re)
+    (reads_pair (λ (p : Formals). formals p.0 p.1) (λ items. sign LeftBrace ▸ each (body_item E) items ▸ sign RightBrace) names_end anything formals_at (behind LeftBrace (closed RightBrace (body_at exp))) reads_formals (braces re)
     (λ items large back rest t end. rw (t.parts, append_assoc) (sign_allowed names_end LeftBrace (λ p rest e. (tt, rw e refl)) t.large_front t.front (t.back ++ rest) t.first)))
-  (no_end (λ (p : Formals × List BodyItem). formals p.0.0 p.0.1 ▸ sign LeftBrace ▸ each (body_item E) p.1 ▸ sign RightBrace) anything)
+    (no_end (λ (p : Formals × List BodyItem). formals p.0.0 p.0.1 ▸ sign LeftBrace ▸ each (body_item E) p.1 ▸ sign RightBrace) anything)
 
 condition_form : {E : Exp → Form} {End : List PlacedToken → Type 0} {exp : Reader Exp} → ReadsExpressions E End exp → Reads (λ (p : List ℕ × (ℕ × Qop)). sign LeftParenthesis ▸ name p.0 ▸ sign Equals ▸ integer p.1.0 ▸ sign RightParenthesis ▸ qop E p.1.1) anything (behind LeftParenthesis (pair name_at (behind Equals (pair integer_at (behind RightParenthesis (qop_at exp))))))
 condition_form {E} {End} {exp} re =

@@ -1,21 +1,21 @@
 -- Tokens split into statements in one way, and have one answer.
-use Rattle.std.proofs.Common.{◌≡◌, ℕ, ◌+◌, List, [], ◌∷◌, ◌++◌, Option, Some, None, Result, Ok, Err, refl, sym, ap, subst, ◌∙◌, append_assoc, ◌⊎◌, inl, inr}
+use Rattle.std.proofs.Common.{◌≡◌, ℕ, List, [], ◌∷◌, ◌++◌, Option, Some, None, Result, Ok, Err, refl, sym, ap, subst, ◌∙◌, append_assoc, ◌⊎◌, inl, inr}
 use Rattle.std.proofs.lemmas.List.{append_cancel_right}
 use Rattle.std.specs.Option.{option_or}
 use Rattle.qasm_read.specs.declared.fault.QasmFault.{QasmFault}
-use Rattle.qasm_read.specs.declared.fault.QasmFault.TheVariants.{Header, Large, NoMemory, Statement as NoStatement}
+use Rattle.qasm_read.specs.declared.fault.QasmFault.TheVariants.{Header}
 use Rattle.qasm_read.specs.declared.statement.Placed.{Placed}
 use Rattle.qasm_read.specs.declared.statement.Statement.{Statement}
 use Rattle.qasm_tokens.specs.declared.token.PlacedToken.{PlacedToken}
 use Rattle.qasm_read.specs.Forms.{each, place_of}
 use Rattle.qasm_read.specs.Grammar.{a_statement, an_expression}
-use Rattle.qasm_read.specs.Reading.{State, statement_at, header_at, ◌>>=◌}
+use Rattle.qasm_read.specs.Reading.{State, statement_at, header_at}
 use Rattle.qasm_read.specs.Expressions.{exp_at}
-use Rattle.qasm_read.specs.Program.{header, a_placed_statement, Begins, NoStatementBegins, LongestRun, verdict, AnswersBehind, Answers}
+use Rattle.qasm_read.specs.Program.{header, a_placed_statement, Begins, NoStatementBegins, verdict, AnswersBehind, Answers}
 use Rattle.qasm_read.proofs.Readers.{at, some_is}
 use Rattle.qasm_read.proofs.ExpressionLaws.{cut_expression}
 use Rattle.qasm_read.proofs.Changes.{change_statement, none_parts, to_cut}
-use Rattle.qasm_read.proofs.ProgramLaws.{reads_cut, no_header_fault, header_reads}
+use Rattle.qasm_read.proofs.ProgramLaws.{reads_cut, header_reads}
 
 pub one_statement : (s t : Statement) (m n : Option ℕ) (placed a b : List PlacedToken) (p : Begins (a_statement an_expression s) m placed a) (q : Begins (a_statement an_expression t) n placed b) → (p.front ≡ q.front) × (a ≡ b) × (m ≡ n) × (m ≡ None → s ≡ t)
 one_statement s t m n placed a b p q =
@@ -25,9 +25,12 @@ one_statement s t m n placed a b p q =
     let both = sym (reads_cut.only c.0 m None p.front a c.1 tt) ∙ ap (λ (ts : List PlacedToken). statement_at exp_at (at ts None)) parts ∙ reads_cut.only d.0 n None q.front b d.1 tt in
     let r : (c.0, at a m) ≡ (d.0, at b n) = some_is both in
     let left : a ≡ b = ap (λ (x : Statement × State). x.1.placed) r in
-    let large : m ≡ n = ap (λ (x : Statement × State). x.1.large) r in
-    (append_cancel_right p.front q.front a (parts ∙ ap (λ (ts : List PlacedToken). q.front ++ ts) (sym left)), left, large,
-      λ none. c.2 none ∙ ap (λ (x : Statement × State). x.0) r ∙ sym (d.2 (sym large ∙ none)))
+    let large : m ≡ n = ap (λ (x : Statement × State). x.1.large) r in (
+      append_cancel_right p.front q.front a (parts ∙ ap (λ (ts : List PlacedToken). q.front ++ ts) (sym left)),
+      left,
+      large,
+      λ none. c.2 none ∙ ap (λ (x : Statement × State). x.0) r ∙ sym (d.2 (sym large ∙ none)),
+    )
 
 -- ---- runs
 

@@ -1,8 +1,7 @@
 -- What is read as an expression spells it.
-use Rattle.std.proofs.Common.{◌≡◌, ℕ, ◌+◌, ◌<◌, ◌≤◌, Bool, true, false, cond, leb, List, [], ◌∷◌, ◌++◌, length, Option, Some, None, refl, sym, ap, subst, ◌∙◌, append_assoc, arith}
+use Rattle.std.proofs.Common.{◌≡◌, ℕ, ◌<◌, ◌≤◌, Bool, true, false, cond, leb, List, [], ◌∷◌, ◌++◌, Option, Some, None, refl, sym, ap, subst, ◌∙◌, append_assoc, arith}
 use Rattle.std.proofs.lemmas.Bool.{leb-true, leb-false}
 use Rattle.std.proofs.lemmas.List.{append-nil}
-use Rattle.std.proofs.lemmas.Option.{cond_some}
 use Rattle.circuit_core.specs.declared.words.BinOp.{BinOp}
 use Rattle.circuit_core.specs.declared.words.BinOp.TheVariants.{Add, Sub, Mul, Div, Pow}
 use Rattle.circuit_core.specs.declared.words.FunName.{FunName}
@@ -25,7 +24,7 @@ use Rattle.qasm_read.specs.Frames.{strength_of, left_hold, hold_of, put_in, redu
 use Rattle.qasm_read.specs.Starts.{start_of, operator_of}
 use Rattle.qasm_read.specs.Expressions.{Mode, wanted, opening, there, at_end, run}
 use Rattle.qasm_read.proofs.Readers.{is_sign-true, some_is, along}
-use Rattle.qasm_read.proofs.Runs.{Outcome, begun, wanted_is, closing, followed, there_is, none_is}
+use Rattle.qasm_read.proofs.Runs.{begun, closing, followed}
 use Rattle.qasm_read.proofs.Images.{image, image_real, image_int, image_pi, image_id, image_neg, image_fun, image_bin}
 use Rattle.qasm_read.proofs.Climbing.{floor_of, ceiling_of, ceiling_whole, floor_whole, Weak, Weak-more}
 
@@ -160,8 +159,8 @@ record Rests (n : ℕ) (frames : List Frame) (tree : Option Tree) (ts : List Tok
   low : Weak n frames
 
 rests_by : (n : ℕ) (f : Frame) (frames : List Frame) (tree : Option Tree) (ts : List Token) (b : Bool) → leb n (hold_of f) ≡ b → 0 < n → (s : Stood (f ∷ frames) tree ts) → n ≤ floor_of s.level
-  → ((s : Stood frames (put_in f tree) ts) → n ≤ floor_of s.level → Rests n (reduced n frames (put_in f tree)).0 (reduced n frames (put_in f tree)).1 ts)
-  → Rests n (cond b (reduced n frames (put_in f tree)) (f ∷ frames, tree)).0 (cond b (reduced n frames (put_in f tree)) (f ∷ frames, tree)).1 ts
+    → ((s : Stood frames (put_in f tree) ts) → n ≤ floor_of s.level → Rests n (reduced n frames (put_in f tree)).0 (reduced n frames (put_in f tree)).1 ts)
+    → Rests n (cond b (reduced n frames (put_in f tree)) (f ∷ frames, tree)).0 (cond b (reduced n frames (put_in f tree)) (f ∷ frames, tree)).1 ts
 rests_by n f frames tree ts true is pos s high more =
     let le = leb-true n (hold_of f) is in
     let p = put_stood f frames tree ts s (omega arith) in
@@ -246,8 +245,8 @@ walk_wanted other frames ts rest tree left on stands e = absurd cc
 walk_opening : (p : PlacedToken) (f : FunName) (frames : List Frame) (ts : List Token) (rest : List PlacedToken) (tree : Option Tree) (left : List PlacedToken) → Onward rest tree left → Fits (opening f frames) ts → (b : Bool) → is_sign signs.LeftParenthesis p.token ≡ b → cond b (run rest (wanted (Function f ∷ frames))) None ≡ Some (tree, left) → Got ts (p ∷ rest) tree left
 walk_opening p f frames ts rest tree left on fits true is e =
     got_more ts p (token.Sign signs.LeftParenthesis) rest tree left (is_sign-true signs.LeftParenthesis p.token is)
-      (on (wanted (Function f ∷ frames)) (ts ++ token.Sign signs.LeftParenthesis ∷ [])
-        (fits.0, fits.1, ap (λ (us : List Token). us ++ token.Sign signs.LeftParenthesis ∷ []) fits.2 ∙ append_assoc fits.0 (word_of f ∷ []) (token.Sign signs.LeftParenthesis ∷ [])) e)
+    (on (wanted (Function f ∷ frames)) (ts ++ token.Sign signs.LeftParenthesis ∷ [])
+    (fits.0, fits.1, ap (λ (us : List Token). us ++ token.Sign signs.LeftParenthesis ∷ []) fits.2 ∙ append_assoc fits.0 (word_of f ∷ []) (token.Sign signs.LeftParenthesis ∷ [])) e)
 walk_opening p f frames ts rest tree left on fits false is e = absurd cc
 
 -- ---- an expression is there
@@ -276,22 +275,41 @@ weaker_than_atoms Pow = omega arith
 
 left_fits : (op : BinOp) (frames : List Frame) (tree : Option Tree) (ts : List Token) → Rests (strength_of op) frames tree ts → Stands (Left op tree ∷ frames) (ts ++ sign_of op ∷ [])
 left_fits op frames tree ts r =
-    let s = r.stood in
-    (s.before, s.own, s.e, s.stands, to_left op s.level s.e s.own r.high s.spells, s.tree_is, Weak-more (strength_of op) (ceiling_of (whole_of op)) frames (omega (arith, ceiling_whole op)) r.low,
-      ap (λ (us : List Token). us ++ sign_of op ∷ []) s.parts ∙ append_assoc s.before s.own (sign_of op ∷ []))
+    let s = r.stood in (
+      s.before,
+      s.own,
+      s.e,
+      s.stands,
+      to_left op s.level s.e s.own r.high s.spells,
+      s.tree_is,
+      Weak-more (strength_of op) (ceiling_of (whole_of op)) frames (omega (arith, ceiling_whole op)) r.low,
+      ap (λ (us : List Token). us ++ sign_of op ∷ []) s.parts ∙ append_assoc s.before s.own (sign_of op ∷ []),
+    )
 
 -- a parenthesis closes the innermost frame
 closed_fits : (f : Frame) (outer : List Frame) (tree : Option Tree) (ts : List Token) → hold_of f < 1 → Stood (f ∷ outer) tree ts → Fits (there outer (put_in f tree)) (ts ++ token.Sign signs.RightParenthesis ∷ [])
 closed_fits Parenthesis outer tree ts low s =
-    let inner = to_expression s.level s.e s.own s.spells in
-    (s.stands.0, enclosed s.own, s.e, s.stands.1, in_parentheses s.e s.own inner, s.tree_is,
+    let inner = to_expression s.level s.e s.own s.spells in (
+      s.stands.0,
+      enclosed s.own,
+      s.e,
+      s.stands.1,
+      in_parentheses s.e s.own inner,
+      s.tree_is,
       ap (λ (us : List Token). us ++ token.Sign signs.RightParenthesis ∷ []) (s.parts ∙ ap (λ (us : List Token). us ++ s.own) s.stands.2 ∙ append_assoc s.stands.0 (token.Sign signs.LeftParenthesis ∷ []) s.own)
-      ∙ append_assoc s.stands.0 (token.Sign signs.LeftParenthesis ∷ s.own) (token.Sign signs.RightParenthesis ∷ []))
+          ∙ append_assoc s.stands.0 (token.Sign signs.LeftParenthesis ∷ s.own) (token.Sign signs.RightParenthesis ∷ []),
+    )
 closed_fits (Function f) outer tree ts low s =
-    let inner = to_expression s.level s.e s.own s.spells in
-    (s.stands.0, word_of f ∷ enclosed s.own, roll-Exp (Exp-F.Fun f s.e), s.stands.1, applied f s.e s.own inner, ap (λ (t : Option Tree). trees.applied f t) s.tree_is ∙ image_fun f s.e,
+    let inner = to_expression s.level s.e s.own s.spells in (
+      s.stands.0,
+      word_of f ∷ enclosed s.own,
+      roll-Exp (Exp-F.Fun f s.e),
+      s.stands.1,
+      applied f s.e s.own inner,
+      ap (λ (t : Option Tree). trees.applied f t) s.tree_is ∙ image_fun f s.e,
       ap (λ (us : List Token). us ++ token.Sign signs.RightParenthesis ∷ []) (s.parts ∙ ap (λ (us : List Token). us ++ s.own) s.stands.2 ∙ append_assoc s.stands.0 (word_of f ∷ token.Sign signs.LeftParenthesis ∷ []) s.own)
-      ∙ append_assoc s.stands.0 (word_of f ∷ token.Sign signs.LeftParenthesis ∷ s.own) (token.Sign signs.RightParenthesis ∷ []))
+          ∙ append_assoc s.stands.0 (word_of f ∷ token.Sign signs.LeftParenthesis ∷ s.own) (token.Sign signs.RightParenthesis ∷ []),
+    )
 closed_fits Minus outer tree ts low s = absurd (omega arith)
 closed_fits (Left Add left) outer tree ts low s = absurd (omega arith)
 closed_fits (Left Sub left) outer tree ts low s = absurd (omega arith)

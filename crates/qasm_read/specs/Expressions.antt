@@ -1,5 +1,5 @@
 -- How an expression is read: token by token, in frames.
-use Rattle.std.specs.Prelude.{◌≡◌, ℕ, ◌<◌, List, [], ◌∷◌, length, Option, Some, None, Result, Ok, Err, Bool, cond}
+use Rattle.std.specs.Prelude.{◌≡◌, ℕ, ◌<◌, List, [], ◌∷◌, length, Option, Some, None, Result, Ok, Err, cond}
 use Rattle.std.specs.Option.{option_or}
 use Rattle.circuit_core.specs.declared.words.BinOp.{BinOp}
 use Rattle.circuit_core.specs.declared.words.FunName.{FunName}
@@ -35,19 +35,19 @@ run [] (wanted frames) = None
 run [] (opening f frames) = None
 run [] (there frames tree) = at_end (reduced 1 frames tree)
 run (p ∷ rest) (wanted frames) = elim (start_of p.token) [
-    | start.Frame f ↦ run rest (wanted (f ∷ frames))
-    | start.Function f ↦ run rest (opening f frames)
-    | start.Whole e ↦ run rest (there frames (leaf e))
-    | start.Nothing ↦ None
-  ]
+  | start.Frame f ↦ run rest (wanted (f ∷ frames))
+  | start.Function f ↦ run rest (opening f frames)
+  | start.Whole e ↦ run rest (there frames (leaf e))
+  | start.Nothing ↦ None
+]
 run (p ∷ rest) (opening f frames) = cond (is_sign LeftParenthesis p.token) (run rest (wanted (Function f ∷ frames))) None
 run (p ∷ rest) (there frames tree) = elim (operator_of p.token) [
-    | Some op ↦ run rest (wanted (Left op (reduced (strength_of op) frames tree).1 ∷ (reduced (strength_of op) frames tree).0))
-    | None ↦ elim (reduced 1 frames tree).0 [
-        | [] ↦ Some ((reduced 1 frames tree).1, p ∷ rest)
-        | f ∷ outer ↦ cond (is_sign RightParenthesis p.token) (run rest (there outer (put_in f (reduced 1 frames tree).1))) None
-      ]
+  | Some op ↦ run rest (wanted (Left op (reduced (strength_of op) frames tree).1 ∷ (reduced (strength_of op) frames tree).0))
+  | None ↦ elim (reduced 1 frames tree).0 [
+    | [] ↦ Some ((reduced 1 frames tree).1, p ∷ rest)
+    | f ∷ outer ↦ cond (is_sign RightParenthesis p.token) (run rest (there outer (put_in f (reduced 1 frames tree).1))) None
   ]
+]
 
 abbrev pub next_operator : State → Option BinOp
 next_operator st = elim st.placed [ [] ↦ None | p ∷ rest ↦ operator_of p.token ]
@@ -64,9 +64,9 @@ tree_at st = run st.placed (wanted []) >>= λ x. Some (x.0, record { placed = x.
 -- pi stands for a large expression, whose place is kept: there is no program then
 abbrev pub kept : Option ℕ → Option Tree × State → Exp × State
 kept place x = elim x.0 [
-    | Some tree ↦ (tree.exp, x.1)
-    | None ↦ (roll-Exp Exp-F.Pi, record { placed = x.1.placed; large = option_or x.1.large place })
-  ]
+  | Some tree ↦ (tree.exp, x.1)
+  | None ↦ (roll-Exp Exp-F.Pi, record { placed = x.1.placed; large = option_or x.1.large place })
+]
 
 unfoldable pub exp_at : Reader Exp
 exp_at st = tree_at st >>= λ x. Some (kept (place_of st.placed) x)

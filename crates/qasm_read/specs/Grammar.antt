@@ -1,5 +1,5 @@
 -- The grammar of a circuit file (OpenQASM 2.0, arXiv:1707.03429, appendix A, in the profile of docs/circuit.md).
-use Rattle.std.specs.Prelude.{◌≡◌, ℕ, ◌+◌, ◌≤◌, List, [], ◌∷◌, ◌++◌, Option, Some, None, Bool, true, false, cond, nat_le, codes}
+use Rattle.std.specs.Prelude.{◌≡◌, ℕ, ◌+◌, List, [], ◌∷◌, ◌++◌, Some, None, Bool, cond, nat_le}
 use Rattle.circuit_core.specs.declared.words.BinOp.{BinOp}
 use Rattle.circuit_core.specs.declared.words.BinOp.TheVariants.{Add, Sub, Mul, Div, Pow}
 use Rattle.circuit_core.specs.declared.words.FunName.{FunName}
@@ -15,10 +15,7 @@ use Rattle.qasm_read.specs.declared.statement.Statement.{Statement}
 use Rattle.qasm_read.specs.declared.statement.Statement.TheVariants as statement
 use Rattle.qasm_tokens.specs.declared.token.Token.{Token}
 use Rattle.qasm_tokens.specs.declared.token.Token.TheVariants as token
-use Rattle.qasm_tokens.specs.declared.token.PlacedToken.{PlacedToken}
-use Rattle.qasm_tokens.specs.declared.token.Keyword.{Keyword}
 use Rattle.qasm_tokens.specs.declared.token.Keyword.TheVariants as word
-use Rattle.qasm_tokens.specs.declared.token.Sign.{Sign}
 use Rattle.qasm_tokens.specs.declared.token.Sign.TheVariants.{Semicolon, Comma, LeftParenthesis, RightParenthesis, LeftBracket, RightBracket, LeftBrace, RightBrace, Plus, Minus, Star, Slash, Caret, Arrow, Equals}
 use Rattle.qasm_read.specs.Forms.{Form, ◌▸◌, word, sign, name, integer, text, each, commas, parameters, tokens_of, place_of}
 

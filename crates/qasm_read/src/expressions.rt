@@ -10,19 +10,16 @@ use crate::frame::{Frame, strength};
 use crate::frames::Frames;
 use crate::start::{Start, start_of};
 use crate::stop::Stop;
-use qasm_tokens::{Sign, TokenSource};
 use crate::tokens::Tokens;
 use crate::tree::Tree;
 use circuit_core::BinOp;
+use qasm_tokens::{Sign, TokenSource};
 use qc_base::NoMemory;
 use std::alloc::Global;
 
 /// Reads an expression. One of more than 1,000 nodes is read, too, and not built.
 #[tactic(auto, unfolding(crate::specs::Expressions::exp_at))]
-pub fn expression<T: TokenSource + Drop>(
-    alloc: Global,
-    tokens: &mut Tokens<T>,
-) -> Result<Exp, Stop>
+pub fn expression<T: TokenSource + Drop>(alloc: Global, tokens: &mut Tokens<T>) -> Result<Exp, Stop>
     ensures { Gives result tokens.new (exp_at tokens.old) }
 {
     let place = tokens.place();
@@ -35,10 +32,7 @@ pub fn expression<T: TokenSource + Drop>(
     }
 }
 
-fn tree<T: TokenSource + Drop>(
-    alloc: Global,
-    tokens: &mut Tokens<T>,
-) -> Result<Option<Tree>, Stop>
+fn tree<T: TokenSource + Drop>(alloc: Global, tokens: &mut Tokens<T>) -> Result<Option<Tree>, Stop>
     ensures { Gives result tokens.new (tree_at tokens.old) }
 {
     let mut frames = Frames::new(alloc);

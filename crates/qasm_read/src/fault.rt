@@ -2,7 +2,7 @@
 
 use qasm_tokens::TokenFault;
 use qc_base::NoMemory;
-use std::alloc::AllocFailed;
+use std::alloc::{AllocError, AllocFailed};
 
 /// Why a text isn't a program, with the place of the byte where the fault begins.
 #[derive(Clone, Copy, Debug, PartialEq, Eq)]
@@ -31,6 +31,17 @@ impl From<NoMemory> for QasmFault {
     ghost from_gives = { λ _ e. e ≡ fault.NoMemory };
 
     fn from(_: NoMemory) -> QasmFault {
+        QasmFault::NoMemory
+    }
+}
+
+impl From<AllocError> for QasmFault {
+    ghost use Rattle.std.specs.Prelude.{◌≡◌};
+    ghost use Rattle.qasm_read.specs.declared.fault.QasmFault.TheVariants as fault;
+
+    ghost from_gives = { λ _ e. e ≡ fault.NoMemory };
+
+    fn from(_: AllocError) -> QasmFault {
         QasmFault::NoMemory
     }
 }

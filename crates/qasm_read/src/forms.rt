@@ -6,12 +6,12 @@ ghost use Rattle.qasm_read.specs.Expressions.{exp_at};
 
 use crate::arg::Arg;
 use crate::args::Args;
-use crate::exps::Exps;
 use crate::expressions::expression;
+use crate::exps::Exps;
 use crate::names::Names;
 use crate::stop::Stop;
-use qasm_tokens::{Sign, TokenSource};
 use crate::tokens::Tokens;
+use qasm_tokens::{Sign, TokenSource};
 use std::alloc::Global;
 
 /// Reads an index in brackets.
@@ -53,10 +53,7 @@ pub fn names<T: TokenSource + Drop>(alloc: Global, tokens: &mut Tokens<T>) -> Re
 }
 
 /// Reads arguments with commas between.
-pub fn arguments<T: TokenSource + Drop>(
-    alloc: Global,
-    tokens: &mut Tokens<T>,
-) -> Result<Args, Stop>
+pub fn arguments<T: TokenSource + Drop>(alloc: Global, tokens: &mut Tokens<T>) -> Result<Args, Stop>
     ensures { Gives result tokens.new (commas_at argument_at tokens.old) }
 {
     let mut args = Vec::new(alloc);

@@ -3,9 +3,9 @@
 ghost use Rattle.std.specs.Prelude.{◌≡◌, IfOk};
 ghost use Rattle.qasm_read.specs.Frames.{strength_of, hold_of, put_in};
 
-use qc_base::NoMemory;
 use crate::tree::{Tree, applied, joined, negated};
 use circuit_core::{BinOp, FunName};
+use qc_base::NoMemory;
 use std::alloc::Global;
 
 /// What stands before an expression that belongs to it.

@@ -9,15 +9,15 @@ mod exp;
 mod expressions;
 mod exps;
 mod fault;
+mod file;
+mod forms;
+mod frame;
+mod frames;
 mod laws;
 mod names;
 mod operations;
 mod program;
 mod qop;
-mod forms;
-mod frame;
-mod frames;
-mod read;
 mod reader;
 mod start;
 mod statement;
@@ -33,10 +33,15 @@ pub use body_items::BodyItems;
 pub use exp::Exp;
 pub use exps::Exps;
 pub use fault::QasmFault;
-pub use laws::{one_answer, one_statement_begins};
+pub use file::read;
+pub use laws::{one_answer, one_reading, one_statement_begins};
 pub use names::Names;
 pub use program::Program;
 pub use qop::Qop;
-pub use read::read;
 pub use reader::read_program;
 pub use statement::{Placed, Statement};
+
+#[cfg(test)]
+mod file_tests;
+#[cfg(test)]
+mod tests;

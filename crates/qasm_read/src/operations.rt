@@ -9,8 +9,8 @@ use crate::body_items::BodyItems;
 use crate::forms::{actuals, argument, arguments, names, some_actuals};
 use crate::qop::Qop;
 use crate::stop::Stop;
-use qasm_tokens::{Keyword, Sign, Token, TokenSource};
 use crate::tokens::Tokens;
+use qasm_tokens::{Keyword, Sign, Token, TokenSource};
 use qc_base::Name;
 use std::alloc::Global;
 
@@ -33,10 +33,7 @@ pub fn operation_from<T: TokenSource + Drop>(
 }
 
 /// Reads an operation.
-pub fn operation<T: TokenSource + Drop>(
-    alloc: Global,
-    tokens: &mut Tokens<T>,
-) -> Result<Qop, Stop>
+pub fn operation<T: TokenSource + Drop>(alloc: Global, tokens: &mut Tokens<T>) -> Result<Qop, Stop>
     ensures { Gives result tokens.new (qop_at exp_at tokens.old) }
 {
     let first = tokens.next()?;
@@ -93,10 +90,7 @@ fn call<T: TokenSource + Drop>(
     Ok(Qop::Call { gate, params, args })
 }
 
-fn body_item<T: TokenSource + Drop>(
-    alloc: Global,
-    tokens: &mut Tokens<T>,
-) -> Result<BodyItem, Stop>
+fn body_item<T: TokenSource + Drop>(alloc: Global, tokens: &mut Tokens<T>) -> Result<BodyItem, Stop>
     ensures { Gives result tokens.new (body_item_at exp_at tokens.old) }
 {
     match tokens.next()? {
@@ -155,10 +149,7 @@ fn body_call<T: TokenSource + Drop>(
 }
 
 /// Reads the items of a body, up to its closing brace.
-pub fn body<T: TokenSource + Drop>(
-    alloc: Global,
-    tokens: &mut Tokens<T>,
-) -> Result<BodyItems, Stop>
+pub fn body<T: TokenSource + Drop>(alloc: Global, tokens: &mut Tokens<T>) -> Result<BodyItems, Stop>
     ensures { Gives result tokens.new (body_at exp_at tokens.old) }
 {
     let mut items = Vec::new(alloc);

@@ -9,8 +9,8 @@ use crate::program::Program;
 use crate::statement::Placed;
 use crate::statements::statement;
 use crate::stop::Stop;
-use qasm_tokens::{Keyword, Sign, Token, TokenSource};
 use crate::tokens::Tokens;
+use qasm_tokens::{Keyword, Sign, Token, TokenSource};
 use std::alloc::Global;
 
 /// The program that the tokens spell, or the first fault of grammar.

@@ -5,8 +5,8 @@ ghost use Rattle.qasm_read.specs.Starts.{word_start, start_of, operator_of};
 
 use crate::exp::Exp;
 use crate::frame::Frame;
-use qasm_tokens::{Keyword, Sign, Token};
 use circuit_core::{BinOp, FunName};
+use qasm_tokens::{Keyword, Sign, Token};
 
 /// What a token begins in an expression.
 #[derive(Debug, Drop)]

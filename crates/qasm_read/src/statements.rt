@@ -8,8 +8,8 @@ use crate::forms::{arguments, formals, index};
 use crate::operations::{body, operation, operation_from};
 use crate::statement::Statement;
 use crate::stop::Stop;
-use qasm_tokens::{Keyword, Sign, Token, TokenSource};
 use crate::tokens::Tokens;
+use qasm_tokens::{Keyword, Sign, Token, TokenSource};
 use std::alloc::Global;
 
 /// Reads a statement.
@@ -41,10 +41,7 @@ fn include<T: TokenSource + Drop>(tokens: &mut Tokens<T>) -> Result<Statement, S
     Ok(Statement::Include { text })
 }
 
-fn register<T: TokenSource + Drop>(
-    quantum: bool,
-    tokens: &mut Tokens<T>,
-) -> Result<Statement, Stop>
+fn register<T: TokenSource + Drop>(quantum: bool, tokens: &mut Tokens<T>) -> Result<Statement, Stop>
     ensures { Gives result tokens.new (register_at quantum tokens.old) }
 {
     let name = tokens.name()?;

@@ -9,8 +9,8 @@ ghost use Rattle.qasm_read.specs.Reading.{Gives, comes, next_at, skip_at, name_a
 
 use crate::start::operator_of;
 use crate::stop::Stop;
-use qasm_tokens::{PlacedToken, Sign, Token, TokenSource};
 use circuit_core::BinOp;
+use qasm_tokens::{PlacedToken, Sign, Token, TokenSource};
 use qc_base::{Name, NoMemory};
 use std::marker::Model;
 use std::mem;
@@ -65,10 +65,12 @@ impl<T: TokenSource + Drop> Tokens<T> {
         ensures { result ≡ comes sign self.now }
     {
         match &self.next {
-            Some(PlacedToken {
-                token: Token::Sign(s),
-                ..
-            }) => *s == sign,
+            Some(
+                PlacedToken {
+                    token: Token::Sign(s),
+                    ..
+                },
+            ) => *s == sign,
             _ => false,
         }
     }

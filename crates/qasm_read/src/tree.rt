@@ -4,8 +4,8 @@ ghost use Rattle.std.specs.Prelude.{◌≡◌, IfOk, Some};
 ghost use Rattle.qasm_read.specs.Trees.{leaf, negated, joined, applied};
 
 use crate::exp::Exp;
-use qc_base::NoMemory;
 use circuit_core::{BinOp, FunName};
+use qc_base::NoMemory;
 use sqlite_items::Boxed;
 use std::alloc::Global;
 

@@ -237,12 +237,7 @@ fn push_cross(
     Ok(())
 }
 
-fn push_swap(
-    out: &mut Vec<u8>,
-    trap: &Trap,
-    zone: PlaceId,
-    index: u32,
-) -> Result<(), NoMemory>
+fn push_swap(out: &mut Vec<u8>, trap: &Trap, zone: PlaceId, index: u32) -> Result<(), NoMemory>
     ensures { OnOk result (out.new.items ≡ out.old.items ++ swap_line trap.now zone.0 index) }
 {
     out.extend_from_slice(b"swap ")?;

@@ -1,6 +1,5 @@
-use Rattle.std.proofs.Common.{◌≡◌, ◌∷◌, Option, List, sym, ap, ◌∙◌}
+use Rattle.std.proofs.Common.{◌≡◌, List, sym, ap, ◌∙◌}
 use Rattle.qasm_read.specs.declared.frame.Frame.{Frame}
-use Rattle.qasm_read.specs.declared.frame.Frame.TheVariants.{Left}
 use Rattle.qasm_read.specs.Frames.{strength_of, reduced}
 use Rattle.qasm_read.specs.Expressions.{run, wanted, there}
 use Rattle.qasm_read.proofs.Runs.{taken_by, taken_fewer, there_operator, continues_from}

@@ -3,7 +3,7 @@ use Rattle.qasm_tokens.specs.declared.token.Sign.TheVariants.{RightParenthesis}
 use Rattle.qasm_read.specs.declared.tree.Tree.{Tree}
 use Rattle.qasm_read.specs.Reading.{skip_at}
 use Rattle.qasm_read.specs.Frames.{reduced}
-use Rattle.qasm_read.specs.Expressions.{run, wanted, there, next_operator}
+use Rattle.qasm_read.specs.Expressions.{run, there, next_operator}
 use Rattle.qasm_read.proofs.Runs.{there_done, there_closed, there_unclosed, tree_found, tree_stops, skip_large}
 use Rattle.qasm_read.proofs.expressions.tree.Goals as goal
 
@@ -19,8 +19,8 @@ returns-in_err-skip-in-Some-pop g c =
     let off : next_operator c.loop-op.tokens ≡ None = cc in
     let put : (c.in-Some-pop.frame ∷ c.pop.new.self, c.in_ok-inner-in-None.inner) ≡ reduced 1 c.loop-op.frames c.loop-op.tree = rw (← c.in-Some-pop.ensures) c.in_ok-inner-in-None.ensures in
     tree_stops c.from_residual-in_err-skip-in-Some-pop.result c.in_err-skip-in-Some-pop.field-0.0 c.skip.new.self (skip_at RightParenthesis c.loop-op.tokens) c.args.tokens.now c.skip.new.self
-      c.from_residual-in_err-skip-in-Some-pop.ensures.1 c.in_err-skip-in-Some-pop.ensures
-      (λ e. sym c.loop-op.invariant.same ∙ there_unclosed c.loop-op.tokens c.loop-op.frames c.pop.new.self c.in-Some-pop.frame c.loop-op.tree c.in_ok-inner-in-None.inner off put e)
+    c.from_residual-in_err-skip-in-Some-pop.ensures.1 c.in_err-skip-in-Some-pop.ensures
+    (λ e. sym c.loop-op.invariant.same ∙ there_unclosed c.loop-op.tokens c.loop-op.frames c.pop.new.self c.in-Some-pop.frame c.loop-op.tree c.in_ok-inner-in-None.inner off put e)
 
 pub loop-op-preserved : goal.loop-op-preserved
 loop-op-preserved g c =

@@ -1,16 +1,16 @@
 use Rattle.std.proofs.Common.{◌≡◌, true, false, sym, ◌∙◌}
 use Rattle.qasm_tokens.specs.declared.token.Sign.TheVariants.{Comma}
-use Rattle.qasm_read.specs.Reading.{comes, behind, name_at, argument_at, commas_at}
+use Rattle.qasm_read.specs.Reading.{comes, behind, commas_at}
 use Rattle.qasm_read.specs.Expressions.{exp_at}
 use Rattle.qasm_read.proofs.Lists.{repeat_end}
-use Rattle.qasm_read.proofs.Loops.{commas_more, commas_none, handed_on, short_exp, short_argument}
+use Rattle.qasm_read.proofs.Loops.{commas_more, commas_none, handed_on, short_exp}
 use Rattle.qasm_read.proofs.forms.expressions.Goals as goal
 
 pub returns-in_err-expression-2 : goal.returns-in_err-expression-2
 returns-in_err-expression-2 g c =
     let on : comes Comma c.loop-alloc.tokens ≡ true = cc in
     handed_on c.from_residual-in_err-expression-2.result c.in_err-expression-2.field-0.0 c.expression-in-loop-alloc.new.tokens c.expression-in-loop-alloc.new.tokens (exp_at c.skip.new.self) (commas_at exp_at c.args.tokens.now) c.from_residual-in_err-expression-2.ensures.1 c.in_err-expression-2.ensures
-      (λ e. sym c.loop-alloc.invariant ∙ commas_none exp_at short_exp c.loop-alloc.exps.items c.loop-alloc.tokens c.skip.new.self on c.in_ok-skip.ensures e)
+    (λ e. sym c.loop-alloc.invariant ∙ commas_none exp_at short_exp c.loop-alloc.exps.items c.loop-alloc.tokens c.skip.new.self on c.in_ok-skip.ensures e)
 
 pub loop-alloc-preserved : goal.loop-alloc-preserved
 loop-alloc-preserved g c =

@@ -1,6 +1,6 @@
 use Rattle.std.proofs.Common.{◌≡◌, length}
 use Rattle.qasm_tokens.specs.declared.token.Sign.TheVariants.{Comma}
-use Rattle.qasm_read.specs.Reading.{name_at, argument_at, comes, behind, with_front, repeat_at, commas_at}
+use Rattle.qasm_read.specs.Reading.{comes, behind, with_front, repeat_at, commas_at}
 use Rattle.qasm_read.specs.Expressions.{exp_at}
 use Rattle.qasm_read.proofs.forms.expressions.Given as goal
 

@@ -10,7 +10,7 @@ pub returns-in_err-body_item : goal.returns-in_err-body_item
 returns-in_err-body_item g c =
     let off : comes RightBrace c.loop-alloc.tokens ≡ false = cc in
     handed_on c.from_residual.result c.in_err-body_item.field-0.0 c.body_item.new.tokens c.body_item.new.tokens (body_item_at exp_at c.loop-alloc.tokens) (body_at exp_at c.args.tokens.now) c.from_residual.ensures.1 c.in_err-body_item.ensures
-      (λ e. sym c.loop-alloc.invariant ∙ repeat_none (λ st. not (comes RightBrace st)) (body_item_at exp_at) short_item c.loop-alloc.items.items c.loop-alloc.tokens (ap not off) e)
+    (λ e. sym c.loop-alloc.invariant ∙ repeat_none (λ st. not (comes RightBrace st)) (body_item_at exp_at) short_item c.loop-alloc.items.items c.loop-alloc.tokens (ap not off) e)
 
 pub loop-alloc-smaller : goal.loop-alloc-smaller
 loop-alloc-smaller g c = short_item c.loop-alloc.tokens c.in_ok-body_item.field-0 c.body_item.new.tokens c.in_ok-body_item.ensures

@@ -1,6 +1,5 @@
-use Rattle.std.proofs.Common.{◌≡◌, not, length}
-use Rattle.qasm_tokens.specs.declared.token.Sign.TheVariants.{RightBrace}
-use Rattle.qasm_read.specs.Reading.{comes, with_front, repeat_at, body_item_at, body_at}
+use Rattle.std.proofs.Common.{◌≡◌, length}
+use Rattle.qasm_read.specs.Reading.{with_front, body_at}
 use Rattle.qasm_read.specs.Expressions.{exp_at}
 use Rattle.qasm_read.proofs.operations.body.Given as goal
 

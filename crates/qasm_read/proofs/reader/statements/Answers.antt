@@ -1,4 +1,4 @@
-use Rattle.std.proofs.Common.{◌≡◌, List, None, Some, Ok, sym, ap, subst, ◌∙◌}
+use Rattle.std.proofs.Common.{◌≡◌, List, None, Some, Ok, sym, subst}
 use Rattle.qasm_read.specs.declared.statement.Placed.{Placed}
 use Rattle.qasm_read.specs.Forms.{each, place_of}
 use Rattle.qasm_read.specs.Reading.{statement_at}
@@ -15,7 +15,7 @@ pub loop-at-preserved : goal.loop-at-preserved
 loop-at-preserved g c =
     let here : place_of c.loop-at.tokens.placed ≡ Some c.in-Some.at = cc in
     subst (λ (ss : List Placed). Took (each cut_placed ss) c.args.tokens.now c.statement.new.tokens) (sym c.in_ok-push-in-Ok.ensures.items)
-      (one_more c.loop-at.statements.items c.in-Ok.statement c.in-Some.at c.args.tokens.now c.loop-at.tokens c.statement.new.tokens c.loop-at.invariant here c.in-Ok.ensures)
+    (one_more c.loop-at.statements.items c.in-Ok.statement c.in-Some.at c.args.tokens.now c.loop-at.tokens c.statement.new.tokens c.loop-at.invariant here c.in-Ok.ensures)
 
 pub returns-in-Some-large : goal.returns-in-Some-large
 returns-in-Some-large g c =

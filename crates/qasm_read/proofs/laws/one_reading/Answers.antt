@@ -1,0 +1,5 @@
+use Rattle.qasm_read.proofs.OneReading.{one_reading}
+use Rattle.qasm_read.proofs.laws.one_reading.Goals as goal
+
+pub returns : goal.returns
+returns c = one_reading
