@@ -1,0 +1,13 @@
+pub mod Readers
+pub mod Lists
+pub mod Arguments
+pub mod StatementLaws
+pub mod Loops
+pub mod Runs
+pub mod Images
+pub mod Climbing
+pub mod Walking
+pub mod ExpressionLaws
+pub mod Changes
+pub mod ProgramLaws
+pub mod Unique

@@ -1,0 +1,42 @@
+//! The reader of circuit files: a text of OpenQASM 2.0 as a list of statements.
+#![tactic(auto)]
+
+mod arg;
+mod args;
+mod body_item;
+mod body_items;
+mod exp;
+mod expressions;
+mod exps;
+mod fault;
+mod laws;
+mod names;
+mod operations;
+mod program;
+mod qop;
+mod forms;
+mod frame;
+mod frames;
+mod read;
+mod reader;
+mod start;
+mod statement;
+mod statements;
+mod stop;
+mod tokens;
+mod tree;
+
+pub use arg::Arg;
+pub use args::Args;
+pub use body_item::BodyItem;
+pub use body_items::BodyItems;
+pub use exp::Exp;
+pub use exps::Exps;
+pub use fault::QasmFault;
+pub use laws::{one_answer, one_statement_begins};
+pub use names::Names;
+pub use program::Program;
+pub use qop::Qop;
+pub use read::read;
+pub use reader::read_program;
+pub use statement::{Placed, Statement};

@@ -1,0 +1,20 @@
+//! A circuit file's bytes, read.
+
+ghost use Rattle.qasm_read.specs.Program.{UnlessMemory};
+ghost use Rattle.qasm_read.specs.Read.{IsReading};
+
+use crate::fault::QasmFault;
+use crate::program::Program;
+use crate::reader::read_program;
+use qasm_tokens::TextTokens;
+use std::alloc::Global;
+
+/// The program that the bytes are, or the first fault with its place.
+pub fn read(alloc: Global, bytes: &[u8]) -> Result<Program, QasmFault>
+    ensures { UnlessMemory (IsReading bytes.now) result }
+{
+    match TextTokens::new(alloc, bytes) {
+        Ok(tokens) => read_program(alloc, tokens),
+        Err(fault) => Err(QasmFault::from(fault)),
+    }
+}
