@@ -11,3 +11,4 @@ pub mod ExpressionLaws
 pub mod Changes
 pub mod ProgramLaws
 pub mod Unique
+pub mod Readings

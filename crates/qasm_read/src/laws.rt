@@ -1,12 +1,13 @@
 //! Laws of the grammar.
 
-ghost use Rattle.std.specs.Prelude.{◌≡◌, ℕ, List, Option, None, Result};
+ghost use Rattle.std.specs.Prelude.{◌≡◌, ℕ, List, Option, None, Result, Err};
 ghost use Rattle.qasm_read.specs.declared.fault.QasmFault.{QasmFault};
 ghost use Rattle.qasm_read.specs.declared.statement.Placed.{Placed};
 ghost use Rattle.qasm_read.specs.declared.statement.Statement.{Statement};
 ghost use Rattle.qasm_tokens.specs.declared.token.PlacedToken.{PlacedToken};
 ghost use Rattle.qasm_read.specs.Grammar.{a_statement, an_expression};
 ghost use Rattle.qasm_read.specs.Program.{Answers, Begins};
+ghost use Rattle.qasm_read.specs.Read.{IsReading};
 
 /// No statement begins another, so tokens split into statements in one way. Where none of its expressions is large, it is one statement, too.
 pub fn one_statement_begins()
@@ -19,5 +20,17 @@ pub fn one_statement_begins()
 /// Tokens have one answer.
 pub fn one_answer()
     ensures { (placed : List PlacedToken) (x y : Result (List Placed) QasmFault) → Answers placed x → Answers placed y → x ≡ y }
+{
+}
+
+/// Bytes are read in one way.
+pub fn one_reading()
+    ensures { (bytes : List ℕ) (x y : Result (List Placed) QasmFault) → IsReading bytes x → IsReading bytes y → x ≡ y }
+{
+}
+
+/// No bytes are a want of memory.
+pub fn no_reading_wants_memory()
+    ensures { (bytes : List ℕ) → IsReading bytes (Err QasmFault.NoMemory) → ⊥ }
 {
 }

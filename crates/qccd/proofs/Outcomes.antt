@@ -10,11 +10,11 @@ use Rattle.qccd.specs.declared.answer.File.TheVariants.{Circuit, Trap}
 use Rattle.qccd.specs.declared.answer.Answer.{Answer}
 use Rattle.qccd.specs.declared.answer.Answer.TheVariants as answers
 use Rattle.qccd.specs.Wanted.{Files, files_of}
-use Rattle.qccd.specs.Forms.{IsCxText, IsZoneText}
+use Rattle.qccd.specs.Forms.{IsZoneText}
 use Rattle.qccd.specs.Stages.{Then, Is}
 use Rattle.qccd.specs.Prepare.{Found, all_of, all_but, Prepares, CircuitOf, TrapOf, placed}
 use Rattle.qccd.specs.Run.{Explains, StopsAt, FailsToRead, answer_to}
-use Rattle.qccd.proofs.Stages.{IsOne, then-one, file_of-one}
+use Rattle.qccd.proofs.Stages.{IsOne, then-one, file_of-one, circuit_of-one}
 
 -- ---- the stages together
 
@@ -53,6 +53,7 @@ pub explains_circuit : (contents : Contents) (words : List (List ℕ)) (asked : 
 explains_circuit contents words asked answers.Ok request stops = absurd stops
 explains_circuit contents words asked (answers.ReadFault which) request stops = subst (Missing words contents) (sym stops) (missing_circuit words contents asked request)
 explains_circuit contents words asked (answers.Long which) request stops = at_circuit (all_of contents) words asked (answers.Long which) request stops
+explains_circuit contents words asked (answers.Qasm fault) request stops = at_circuit (all_of contents) words asked (answers.Qasm fault) request stops
 explains_circuit contents words asked answers.WriteFault request stops = absurd stops
 explains_circuit contents words asked answers.NoMemory request stops = tt
 explains_circuit contents words asked answers.Usage request stops = absurd stops
@@ -63,6 +64,7 @@ pub explains_trap : (contents : Contents) (words : List (List ℕ)) (asked : Fil
 explains_trap contents words asked circuit answers.Ok request is stops = absurd stops
 explains_trap contents words asked circuit (answers.ReadFault which) request is stops = subst (Missing words contents) (sym stops) (missing_trap words contents asked circuit request is)
 explains_trap contents words asked circuit (answers.Long which) request is stops = at_trap (all_of contents) words asked circuit (answers.Long which) request is stops
+explains_trap contents words asked circuit (answers.Qasm fault) request is stops = at_trap (all_of contents) words asked circuit (answers.Qasm fault) request is stops
 explains_trap contents words asked circuit answers.WriteFault request is stops = absurd stops
 explains_trap contents words asked circuit answers.NoMemory request is stops = tt
 explains_trap contents words asked circuit answers.Usage request is stops = absurd stops
@@ -73,7 +75,7 @@ explains_trap contents words asked circuit answers.Unbuilt request is stops = at
 pub prepares-one : (found : Found) (words : List (List ℕ)) → IsOne (Prepares found words)
 prepares-one found words =
     then-one _ _ (λ a b p q. p ∙ sym q)
-    (λ asked. then-one _ _ (file_of-one Circuit IsCxText (found Circuit asked.circuit))
+    (λ asked. then-one _ _ (circuit_of-one (found Circuit asked.circuit))
     (λ circuit. then-one _ _ (file_of-one Trap IsZoneText (found Trap asked.trap)) (λ trap a b p q. p ∙ sym q)))
 
 pub settled : (contents : Contents) (words : List (List ℕ)) (before now : List ℕ → ℕ) (out_before out_now : ℕ) (result : Answer) (outcome : Result Setting Answer)
@@ -84,6 +86,7 @@ pub settled : (contents : Contents) (words : List (List ℕ)) (before now : List
 settled contents words before now out_before out_now answers.Ok outcome says is reads writes none quiet = inl (ap answer_to (prepares-one (all_of contents) words (Ok says.0) outcome says.1 is))
 settled contents words before now out_before out_now (answers.ReadFault file) outcome says is reads writes none quiet = absurd (none file (reads file refl))
 settled contents words before now out_before out_now (answers.Long file) outcome says is reads writes none quiet = inl (ap answer_to (prepares-one (all_of contents) words (Err (answers.Long file)) outcome says is))
+settled contents words before now out_before out_now (answers.Qasm fault) outcome says is reads writes none quiet = inl (ap answer_to (prepares-one (all_of contents) words (Err (answers.Qasm fault)) outcome says is))
 settled contents words before now out_before out_now answers.WriteFault outcome says is reads writes none quiet = absurd (quiet (writes refl))
 settled contents words before now out_before out_now answers.NoMemory outcome says is reads writes none quiet = inr refl
 settled contents words before now out_before out_now answers.Usage outcome says is reads writes none quiet = inl (ap answer_to (prepares-one (all_of contents) words (Err answers.Usage) outcome says is))

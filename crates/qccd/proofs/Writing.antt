@@ -1,0 +1,21 @@
+-- One text handed over behind another.
+use Rattle.std.proofs.Common.{◌≡◌, ℕ, ◌+◌, ◌≤◌, ◌<◌, List, ◌++◌, length, take, Option, sym, subst, arith, length-append}
+use Rattle.std.proofs.lemmas.List.{take-append-le}
+use Rattle.std.proofs.Math.Seq.{take-append-add}
+use Rattle.qc_base.specs.Causes.{Rose}
+use Rattle.qc_base.specs.Sink.{Took, TookPart}
+use Rattle.qc_base.proofs.Taking.{Took-then}
+
+pub part_of_first : (before now : Option (List ℕ)) (first second : List ℕ) → TookPart before now first → TookPart before now (first ++ second)
+part_of_first before now first second part = record {
+  count = part.count;
+  fewer = omega (arith, part.fewer, length-append first second);
+  taken = rw (take-append-le part.count first second (omega (arith, part.fewer))) part.taken;
+}
+
+pub part_of_second : (before mid now : Option (List ℕ)) (first second : List ℕ) → Took before mid first → TookPart mid now second → TookPart before now (first ++ second)
+part_of_second before mid now first second took part = record {
+  count = length first + part.count;
+  fewer = omega (arith, part.fewer, length-append first second);
+  taken = rw (take-append-add first second part.count) (Took-then before mid now first (take part.count second) took part.taken);
+}
