@@ -1,21 +1,22 @@
 -- Operations in front of others, and that they fit the register.
 use Rattle.std.proofs.Common.{◌≡◌, ◌≢◌, eqb, true, false, Bool, ℕ, ◌<◌, List, [], ◌∷◌, ◌++◌, length, Option, Some, None, refl, sym, ap, subst, ◌∙◌, arith, append_assoc}
-use Rattle.std.specs.Prelude.{All, nat_lt, ◌&&◌, if◌then◌else◌}
+use Rattle.std.specs.Prelude.{All, nat_lt, nat_le, ◌≤◌, ◌&&◌, if◌then◌else◌}
 use Rattle.std.specs.Str.{bytes_eq}
-use Rattle.std.proofs.lemmas.Bool.{eqb-false}
+use Rattle.std.proofs.lemmas.Bool.{eqb-false, ltb-true, leb-true}
 use Rattle.std.proofs.lemmas.Option.{same_Some, none-some}
 use Rattle.std.proofs.lemmas.List.Elements.{All-nil, All-cons}
 use Rattle.qc_base.specs.declared.ids.Qubit.{Qubit}
 use Rattle.circuit_core.specs.declared.op.Op.{Op}
 use Rattle.circuit_core.specs.declared.op.Op.TheVariants.{Cx}
 use Rattle.circuit_core.specs.Circuit.{IsOpOn}
+use Rattle.circuit_core.specs.Identifier.{is_identifier}
 use Rattle.qasm_read.specs.declared.arg.Arg.{Arg}
 use Rattle.qasm_read.specs.declared.qop.Qop.{Qop}
 use Rattle.qasm_read.specs.declared.qop.Qop.TheVariants as operations
 use Rattle.qasm_read.specs.declared.statement.Statement.{Statement}
 use Rattle.qasm_read.specs.declared.statement.Statement.TheVariants as statements
 use Rattle.qasm_read.specs.declared.statement.Placed.{Placed}
-use Rattle.qccd.specs.Flat.{◌>>=◌, index_of, cx_on, cx_of, op_of, ops_of}
+use Rattle.qccd.specs.Flat.{◌>>=◌, index_of, cx_on, cx_of, op_of, ops_of, is_within}
 
 -- these operations, and others behind them
 abbrev pub behind : List Op → Option (List Op) → Option (List Op)
@@ -53,6 +54,21 @@ both : (a b : Bool) → (a && b) ≡ true → b ≡ true
 both true b e = e
 both false b e = cc
 
+-- the last of four
+last : (a b c d : Bool) → (a && b && c && d) ≡ true → d ≡ true
+last a b c true e = refl
+last true true true false e = cc
+last true true false false e = cc
+last true false true false e = cc
+last true false false false e = cc
+last false true true false e = cc
+last false true false false e = cc
+last false false true false e = cc
+last false false false false e = cc
+
+pub within_few : (name : List ℕ) (size : ℕ) (placed : List Placed) (b : Bool) → b ≡ is_within name size placed → b ≡ true → length placed ≤ 10000
+within_few name size placed b e holds = leb-true (length placed) 10000 (last (is_identifier name) (nat_le 1 size) (nat_le size 128) (nat_le (length placed) 10000) (sym e ∙ holds))
+
 -- ---- operations that fit
 
 index_below : (name : List ℕ) (size : ℕ) (arg : Arg) (i : ℕ) → index_of name size arg ≡ Some i → i < size
@@ -60,7 +76,7 @@ index_below name size arg i e =
     let m = made arg.index (λ index. if bytes_eq arg.name name && nat_lt index size then Some index else None) i e in
     let p = passed (bytes_eq arg.name name && nat_lt m.x size) m.x i m.made in
     let below = both (bytes_eq arg.name name) (nat_lt m.x size) p.0 in
-    subst (λ (n : ℕ). n < size) p.1 (omega (arith, below))
+    subst (λ (n : ℕ). n < size) p.1 (ltb-true m.x size below)
 
 cx_fits : (size control target : ℕ) (op : Op) → control < size → target < size → cx_on control target ≡ Some op → IsOpOn size op
 cx_fits size control target op first second e =
@@ -87,7 +103,7 @@ op_fits name size (statements.Opaque gate params qubits) op e = absurd (none-som
 op_fits name size (statements.Barrier args) op e = absurd (none-some op e)
 op_fits name size (statements.If creg value q) op e = absurd (none-some op e)
 
-record Fit (size count : ℕ) (ops : List Op) : Type 0 where
+pub record Fit (size count : ℕ) (ops : List Op) : Type 0 where
   pub as_many : length ops ≡ count
   pub fit : All (IsOpOn size) ops
 
@@ -98,6 +114,6 @@ ops_fit name size (p ∷ rest) ops e =
     let b = made (ops_of name size rest) (λ more. Some (a.x ∷ more)) ops a.made in
     let more = ops_fit name size rest b.x b.is in
     subst (Fit size (length (p ∷ rest))) (same_Some (a.x ∷ b.x) ops b.made) (record {
-      as_many = ap (λ n. n + 1) more.as_many;
+      as_many = omega (arith, more.as_many);
       fit = All-cons (IsOpOn size) a.x b.x (op_fits name size p.statement a.x a.is) more.fit;
     })

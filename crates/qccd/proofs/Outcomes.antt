@@ -1,10 +1,13 @@
 -- What a run comes to, and why it answers as it does.
 use Rattle.std.proofs.Common.{◌≡◌, ℕ, List, Option, Some, None, Result, Ok, Err, refl, sym, ap, ◌∙◌, subst, inl, inr, ◌⊎◌}
+use Rattle.std.specs.Prelude.{Bool, true, false, IsTrue, nat_le, ◌≤◌, ◌↔◌, if◌then◌else◌}
+use Rattle.std.proofs.lemmas.Bool.{iff_false, leb-true, le-leb}
 use Rattle.qc_base.specs.Causes.{Rose}
 use Rattle.qc_base.specs.Shelf.{Contents}
-use Rattle.circuit_core.specs.Circuit.{Parts}
+use Rattle.circuit_core.specs.Circuit.{Parts, qubit_count}
 use Rattle.trap_model.specs.Trap.{Lists}
-use Rattle.step_rules.specs.Setting.{Setting}
+use Rattle.step_rules.specs.Setting.{Setting, setting_of}
+use Rattle.qccd.specs.Filling.{declared_qubits, filled, room}
 use Rattle.qccd.specs.declared.answer.File.{File}
 use Rattle.qccd.specs.declared.answer.File.TheVariants.{Circuit, Trap}
 use Rattle.qccd.specs.declared.answer.Answer.{Answer}
@@ -37,9 +40,24 @@ at_placement found words asked circuit trap outcome request is also placing = re
   goes_on = record { given = Ok circuit; is = is; goes_on = record { given = Ok trap; is = also; goes_on = placing } };
 }
 
+-- a placement, or none, as a test of room said
+without : (setting : Setting) (d : Bool) → (d ≡ true → ⊥) → Err answers.Unbuilt ≡ (if d then Ok setting else Err answers.Unbuilt)
+without setting true none = absurd (none refl)
+without setting false none = refl
+
+pub no_room : (circuit : Parts) (trap : Lists) (b : Bool) → (b ≡ true) ↔ (qubit_count circuit ≤ room trap.zones) → b ≡ false → Err answers.Unbuilt ≡ placed circuit trap
+no_room circuit trap b tells is = without (setting_of trap circuit (filled trap.zones (declared_qubits circuit))) (nat_le (qubit_count circuit) (room trap.zones)) (λ fits. iff_false tells is (leb-true (qubit_count circuit) (room trap.zones) fits))
+
+pub with_room : (circuit : Parts) (trap : Lists) → qubit_count circuit ≤ room trap.zones → Ok (setting_of trap circuit (filled trap.zones (declared_qubits circuit))) ≡ placed circuit trap
+with_room circuit trap fits = sym (ap (λ (d : Bool). if d then Ok (setting_of trap circuit (filled trap.zones (declared_qubits circuit))) else Err answers.Unbuilt) (le-leb (qubit_count circuit) (room trap.zones) fits))
+
+-- a trap that was found on a shelf that holds the same
+pub same_trap : {tells_old tells_now : Bool} (old now : Contents) (name : List ℕ) (trap : Lists) → tells_now ≡ tells_old → now ≡ old → (IsTrue tells_now → TrapOf (now name) (Ok trap)) → IsTrue tells_old → TrapOf (old name) (Ok trap)
+same_trap old now name trap as_told same found tells = subst (λ (c : Contents). TrapOf (c name) (Ok trap)) same (found (subst (λ (b : Bool). IsTrue b) (sym as_told) tells))
+
 -- a file without content cannot be read
 missing_circuit : (words : List (List ℕ)) (contents : Contents) (asked : Files) → files_of words ≡ Ok asked → Prepares (all_but Circuit contents) words (Err (answers.ReadFault Circuit))
-missing_circuit words contents asked request = at_circuit (all_but Circuit contents) words asked (answers.ReadFault Circuit) request (record { given = Err (answers.ReadFault Circuit); is = refl; goes_on = refl })
+missing_circuit words contents asked request = at_circuit (all_but Circuit contents) words asked (answers.ReadFault Circuit) request (record { stages = record { given = Err (answers.ReadFault Circuit); is = refl; goes_on = refl } })
 
 missing_trap : (words : List (List ℕ)) (contents : Contents) (asked : Files) (circuit : Parts) → files_of words ≡ Ok asked → CircuitOf (contents asked.circuit) (Ok circuit) → Prepares (all_but Trap contents) words (Err (answers.ReadFault Trap))
 missing_trap words contents asked circuit request is = at_trap (all_but Trap contents) words asked circuit (answers.ReadFault Trap) request is (record { given = Err (answers.ReadFault Trap); is = refl; goes_on = refl })

@@ -15,7 +15,9 @@ use Rattle.qasm_read.proofs.Readings.{one_reading}
 use Rattle.qccd.specs.Flat.{flat, circuit_of}
 use Rattle.qccd.specs.declared.answer.File.TheVariants as files
 use Rattle.qccd.specs.Stages.{GoesOn, Then}
-use Rattle.qccd.specs.Prepare.{bytes_of, Reads, FileOf, or_qasm, ProgramOf, CircuitOf}
+use Rattle.qccd.specs.Prepare.{bytes_of, Reads, FileOf, or_qasm, refusal_of, ProgramOf, CircuitOf}
+use Rattle.qccd.specs.Run.{StopsAt}
+use Rattle.std.specs.Option.{ok_or}
 
 -- a stage has at most one outcome
 abbrev pub IsOne : {X : Type 0} → (Result X Answer → Type 0) → Type 0
@@ -42,13 +44,13 @@ program_of-one : (bytes : List ℕ) → IsOne (ProgramOf bytes)
 program_of-one bytes a b p q = p.outcome_is ∙ ap or_qasm (one_reading bytes p.reading q.reading p.is q.is) ∙ sym q.outcome_is
 
 pub circuit_of-one : (content : Option (List ℕ)) → IsOne (CircuitOf content)
-circuit_of-one content = then-one _ _ (λ a b p q. p ∙ sym q) (λ bytes. then-one _ _ (program_of-one bytes) (λ program a b p q. p ∙ sym q))
+circuit_of-one content a b p q = then-one _ _ (λ a b p q. p ∙ sym q) (λ bytes. then-one _ _ (program_of-one bytes) (λ program a b p q. p ∙ sym q)) a b p.stages q.stages
 
 -- ---- the circuit of a file
 
 pub circuit_is : (content : Option (List ℕ)) (bytes shown : List ℕ) (program : List Placed) (outcome : Result Parts Answer) → bytes_of files.Circuit content ≡ Ok bytes → shown ≡ bytes
     → IsReading shown (Ok program) → outcome ≡ circuit_of program → CircuitOf content outcome
-circuit_is content bytes shown program outcome whole same reading is = record {
+circuit_is content bytes shown program outcome whole same reading is = record { stages = record {
   given = Ok bytes;
   is = sym whole;
   goes_on = record {
@@ -56,11 +58,11 @@ circuit_is content bytes shown program outcome whole same reading is = record {
     is = record { reading = Ok program; is = subst (λ (b : List ℕ). IsReading b (Ok program)) same reading; outcome_is = refl };
     goes_on = is;
   };
-}
+} }
 
 pub circuit_is_no_program : (content : Option (List ℕ)) (bytes shown : List ℕ) (fault : QasmFault) → bytes_of files.Circuit content ≡ Ok bytes → shown ≡ bytes
     → IsReading shown (Err fault) → CircuitOf content (Err (answers.Qasm fault))
-circuit_is_no_program content bytes shown fault whole same reading = record {
+circuit_is_no_program content bytes shown fault whole same reading = record { stages = record {
   given = Ok bytes;
   is = sym whole;
   goes_on = record {
@@ -68,7 +70,25 @@ circuit_is_no_program content bytes shown fault whole same reading = record {
     is = record { reading = Err fault; is = subst (λ (b : List ℕ). IsReading b (Err fault)) same reading; outcome_is = refl };
     goes_on = refl;
   };
-}
+} }
+
+pub found_is : (shown program : List Placed) (read : Option Parts) (outcome : Option Parts) → shown ≡ program → read ≡ flat shown → read ≡ outcome → ok_or outcome answers.Unbuilt ≡ circuit_of program
+found_is shown program read outcome same is as_read = ap (λ (o : Option Parts). ok_or o answers.Unbuilt) (sym as_read ∙ is ∙ ap flat same)
+
+refused_by : (content : Option (List ℕ)) (bytes shown : List ℕ) (fault : QasmFault) → bytes_of files.Circuit content ≡ Ok bytes → shown ≡ bytes
+    → UnlessMemory (IsReading shown) (Err fault) → StopsAt files.Circuit CircuitOf content (refusal_of fault)
+refused_by content bytes shown faults.NoMemory whole same reading = tt
+refused_by content bytes shown faults.Header whole same reading = circuit_is_no_program content bytes shown faults.Header whole same reading
+refused_by content bytes shown (faults.Lex at) whole same reading = circuit_is_no_program content bytes shown (faults.Lex at) whole same reading
+refused_by content bytes shown (faults.LongWord at) whole same reading = circuit_is_no_program content bytes shown (faults.LongWord at) whole same reading
+refused_by content bytes shown (faults.BigNumber at) whole same reading = circuit_is_no_program content bytes shown (faults.BigNumber at) whole same reading
+refused_by content bytes shown (faults.Deep at) whole same reading = circuit_is_no_program content bytes shown (faults.Deep at) whole same reading
+refused_by content bytes shown (faults.Statement at) whole same reading = circuit_is_no_program content bytes shown (faults.Statement at) whole same reading
+refused_by content bytes shown (faults.Large at) whole same reading = circuit_is_no_program content bytes shown (faults.Large at) whole same reading
+
+pub refused : (content : Option (List ℕ)) (bytes shown : List ℕ) (fault : QasmFault) (answer : Answer) → bytes_of files.Circuit content ≡ Ok bytes → shown ≡ bytes
+    → UnlessMemory (IsReading shown) (Err fault) → answer ≡ refusal_of fault → StopsAt files.Circuit CircuitOf content answer
+refused content bytes shown fault answer whole same reading is = subst (StopsAt files.Circuit CircuitOf content) (sym is) (refused_by content bytes shown fault whole same reading)
 
 -- ---- what a reader of bytes found
 

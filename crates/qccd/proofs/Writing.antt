@@ -1,8 +1,8 @@
 -- One text handed over behind another.
-use Rattle.std.proofs.Common.{◌≡◌, ℕ, ◌+◌, ◌≤◌, ◌<◌, List, ◌++◌, length, take, Option, sym, subst, arith, length-append}
+use Rattle.std.proofs.Common.{◌≡◌, ℕ, ◌+◌, ◌≤◌, ◌<◌, List, ◌++◌, length, take, Option, Result, Ok, Err, arith, length-append}
 use Rattle.std.proofs.lemmas.List.{take-append-le}
 use Rattle.std.proofs.Math.Seq.{take-append-add}
-use Rattle.qc_base.specs.Causes.{Rose}
+use Rattle.std.specs.Prelude.{OnErr}
 use Rattle.qc_base.specs.Sink.{Took, TookPart}
 use Rattle.qc_base.proofs.Taking.{Took-then}
 
@@ -19,3 +19,8 @@ part_of_second before mid now first second took part = record {
   fewer = omega (arith, part.fewer, length-append first second);
   taken = rw (take-append-add first second part.count) (Took-then before mid now first (take part.count second) took part.taken);
 }
+
+-- where the second fails, or does not
+pub on_second : {T E : Type 0} (result : Result T E) (before mid now : Option (List ℕ)) (first second : List ℕ) → Took before mid first → OnErr result (TookPart mid now second) → OnErr result (TookPart before now (first ++ second))
+on_second (Ok x) before mid now first second took part = part
+on_second (Err e) before mid now first second took part = part_of_second before mid now first second took part

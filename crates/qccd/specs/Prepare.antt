@@ -3,6 +3,7 @@ use Rattle.std.specs.Prelude.{◌≡◌, ℕ, ◌^◌, nat_le, List, length, Opt
 use Rattle.qc_base.specs.Shelf.{Contents}
 use Rattle.circuit_core.specs.Circuit.{Parts, qubit_count}
 use Rattle.qasm_read.specs.declared.fault.QasmFault.{QasmFault}
+use Rattle.qasm_read.specs.declared.fault.QasmFault.TheVariants as faults
 use Rattle.qasm_read.specs.declared.statement.Placed.{Placed}
 use Rattle.qasm_read.specs.Read.{IsReading}
 use Rattle.trap_model.specs.Trap.{Lists}
@@ -41,6 +42,11 @@ abbrev pub or_qasm : Result (List Placed) QasmFault → Result (List Placed) Ans
 or_qasm (Ok program) = Ok program
 or_qasm (Err fault) = Err (answers.Qasm fault)
 
+-- the answer to a text that isn't a program; want of memory is no fault of it
+abbrev pub refusal_of : QasmFault → Answer
+refusal_of faults.NoMemory = answers.NoMemory
+refusal_of fault = answers.Qasm fault
+
 -- what the bytes are as a program
 pub record ProgramOf (bytes : List ℕ) (outcome : Result (List Placed) Answer) : Type 0 where
   pub reading : Result (List Placed) QasmFault
@@ -48,8 +54,8 @@ pub record ProgramOf (bytes : List ℕ) (outcome : Result (List Placed) Answer) 
   pub outcome_is : outcome ≡ or_qasm reading
 
 -- the circuit's file: its bytes, the program that they are, and the circuit of the program
-abbrev pub CircuitOf : Option (List ℕ) → Result Parts Answer → Type 0
-CircuitOf content = Then (Is (bytes_of Circuit content)) (λ bytes. Then (ProgramOf bytes) (λ program. Is (circuit_of program)))
+pub record CircuitOf (content : Option (List ℕ)) (outcome : Result Parts Answer) : Type 0 where
+  pub stages : Then (Is (bytes_of Circuit content)) (λ bytes. Then (ProgramOf bytes) (λ program. Is (circuit_of program))) outcome
 
 abbrev pub TrapOf : Option (List ℕ) → Result Lists Answer → Type 0
 TrapOf content = FileOf Trap IsZoneText content

@@ -1,6 +1,7 @@
 //! The circuits of the programs that are built.
 
 ghost use Rattle.std.specs.Prelude.{◌≡◌, ℕ, ◌≤◌, IfOk, IsTrue, All, length};
+ghost use Rattle.std.specs.Option.{option_map};
 ghost use Rattle.circuit_core.specs.Circuit.{IsOpOn};
 ghost use Rattle.circuit_core.specs.Identifier.{is_identifier};
 ghost use Rattle.qccd.specs.Flat.{index_of, cx_on, cx_of, op_of, ops_of, is_within, register_circuit, circuit_on, flat};
@@ -71,7 +72,7 @@ fn ops_of(
     size: u32,
     statements: &[Placed],
 ) -> Result<Option<Vec<Op>>, NoMemory>
-    ensures { IfOk result (λ o. o ≡ ops_of name.now size statements.now) }
+    ensures { IfOk result (λ o. option_map (λ v. v.items) o ≡ ops_of name.now size statements.now) }
 {
     let mut ops = Vec::new(alloc);
     for placed in statements {
@@ -117,14 +118,13 @@ fn circuit_on(
 ) -> Result<Option<Circuit>, NoMemory>
     ensures { IfOk result (λ o. o ≡ circuit_on name.now size statements.now) }
 {
-    if !is_within(name.bytes(), size, statements) {
-        return Ok(None);
+    if is_within(name.bytes(), size, statements) {
+        let size = size as u32;
+        if let Some(ops) = ops_of(alloc, name.bytes(), size, statements)? {
+            return Ok(Some(register_circuit(alloc, name, size, ops)?));
+        }
     }
-    let size = size as u32;
-    match ops_of(alloc, name.bytes(), size, statements)? {
-        Some(ops) => Ok(Some(register_circuit(alloc, name, size, ops)?)),
-        None => Ok(None),
-    }
+    Ok(None)
 }
 
 /// The circuit of a program, where it is of the form that is built.
