@@ -50,27 +50,31 @@ circuit_of-one content a b p q = then-one _ _ (λ a b p q. p ∙ sym q) (λ byte
 
 pub circuit_is : (content : Option (List ℕ)) (bytes shown : List ℕ) (program : List Placed) (outcome : Result Parts Answer) → bytes_of files.Circuit content ≡ Ok bytes → shown ≡ bytes
     → IsReading shown (Ok program) → outcome ≡ circuit_of program → CircuitOf content outcome
-circuit_is content bytes shown program outcome whole same reading is = record { stages = record {
-  given = Ok bytes;
-  is = sym whole;
-  goes_on = record {
-    given = Ok program;
-    is = record { reading = Ok program; is = subst (λ (b : List ℕ). IsReading b (Ok program)) same reading; outcome_is = refl };
-    goes_on = is;
+circuit_is content bytes shown program outcome whole same reading is = record {
+  stages = record {
+    given = Ok bytes;
+    is = sym whole;
+    goes_on = record {
+      given = Ok program;
+      is = record { reading = Ok program; is = subst (λ (b : List ℕ). IsReading b (Ok program)) same reading; outcome_is = refl };
+      goes_on = is;
+    };
   };
-} }
+}
 
 pub circuit_is_no_program : (content : Option (List ℕ)) (bytes shown : List ℕ) (fault : QasmFault) → bytes_of files.Circuit content ≡ Ok bytes → shown ≡ bytes
     → IsReading shown (Err fault) → CircuitOf content (Err (answers.Qasm fault))
-circuit_is_no_program content bytes shown fault whole same reading = record { stages = record {
-  given = Ok bytes;
-  is = sym whole;
-  goes_on = record {
-    given = Err (answers.Qasm fault);
-    is = record { reading = Err fault; is = subst (λ (b : List ℕ). IsReading b (Err fault)) same reading; outcome_is = refl };
-    goes_on = refl;
+circuit_is_no_program content bytes shown fault whole same reading = record {
+  stages = record {
+    given = Ok bytes;
+    is = sym whole;
+    goes_on = record {
+      given = Err (answers.Qasm fault);
+      is = record { reading = Err fault; is = subst (λ (b : List ℕ). IsReading b (Err fault)) same reading; outcome_is = refl };
+      goes_on = refl;
+    };
   };
-} }
+}
 
 pub found_is : (shown program : List Placed) (read : Option Parts) (outcome : Option Parts) → shown ≡ program → read ≡ flat shown → read ≡ outcome → ok_or outcome answers.Unbuilt ≡ circuit_of program
 found_is shown program read outcome same is as_read = ap (λ (o : Option Parts). ok_or o answers.Unbuilt) (sym as_read ∙ is ∙ ap flat same)
