@@ -1,12 +1,23 @@
 -- Stages have one outcome, and a file is read as its text says.
-use Rattle.std.proofs.Common.{◌≡◌, List, ℕ, Option, Some, None, Result, Ok, Err, refl, sym, ◌∙◌, subst}
+use Rattle.std.proofs.Common.{◌≡◌, List, ℕ, Option, Some, None, Result, Ok, Err, refl, sym, ap, ◌∙◌, subst}
 use Rattle.std.specs.Prelude.{IfSome}
 use Rattle.std.proofs.lemmas.Option.{same_Some, none-some}
 use Rattle.qccd.specs.declared.answer.File.{File}
 use Rattle.qccd.specs.declared.answer.Answer.{Answer}
 use Rattle.qccd.specs.declared.answer.Answer.TheVariants as answers
+use Rattle.circuit_core.specs.Circuit.{Parts}
+use Rattle.qasm_read.specs.declared.fault.QasmFault.{QasmFault}
+use Rattle.qasm_read.specs.declared.fault.QasmFault.TheVariants as faults
+use Rattle.qasm_read.specs.declared.statement.Placed.{Placed}
+use Rattle.qasm_read.specs.Program.{UnlessMemory}
+use Rattle.qasm_read.specs.Read.{IsReading}
+use Rattle.qasm_read.proofs.OneReading.{one_reading}
+use Rattle.qccd.specs.Flat.{flat, circuit_of}
+use Rattle.qccd.specs.declared.answer.File.TheVariants as files
 use Rattle.qccd.specs.Stages.{GoesOn, Then}
-use Rattle.qccd.specs.Prepare.{bytes_of, Reads, FileOf}
+use Rattle.qccd.specs.Prepare.{bytes_of, Reads, FileOf, or_qasm, refusal_of, ProgramOf, CircuitOf}
+use Rattle.qccd.specs.Run.{StopsAt}
+use Rattle.std.specs.Option.{ok_or}
 
 -- a stage has at most one outcome
 abbrev pub IsOne : {X : Type 0} → (Result X Answer → Type 0) → Type 0
@@ -28,6 +39,60 @@ reads-one Spells bytes (Err a) (Err b) p q = let same = p.0 ∙ sym q.0 in cc
 
 pub file_of-one : {X : Type 0} (file : File) (Spells : List ℕ → X → Type 0) (content : Option (List ℕ)) → IsOne (FileOf file Spells content)
 file_of-one file Spells content = then-one _ _ (λ a b p q. p ∙ sym q) (reads-one Spells)
+
+program_of-one : (bytes : List ℕ) → IsOne (ProgramOf bytes)
+program_of-one bytes a b p q = p.outcome_is ∙ ap or_qasm (one_reading bytes p.reading q.reading p.is q.is) ∙ sym q.outcome_is
+
+pub circuit_of-one : (content : Option (List ℕ)) → IsOne (CircuitOf content)
+circuit_of-one content a b p q = then-one _ _ (λ a b p q. p ∙ sym q) (λ bytes. then-one _ _ (program_of-one bytes) (λ program a b p q. p ∙ sym q)) a b p.stages q.stages
+
+-- ---- the circuit of a file
+
+pub circuit_is : (content : Option (List ℕ)) (bytes shown : List ℕ) (program : List Placed) (outcome : Result Parts Answer) → bytes_of files.Circuit content ≡ Ok bytes → shown ≡ bytes
+    → IsReading shown (Ok program) → outcome ≡ circuit_of program → CircuitOf content outcome
+circuit_is content bytes shown program outcome whole same reading is = record {
+  stages = record {
+    given = Ok bytes;
+    is = sym whole;
+    goes_on = record {
+      given = Ok program;
+      is = record { reading = Ok program; is = subst (λ (b : List ℕ). IsReading b (Ok program)) same reading; outcome_is = refl };
+      goes_on = is;
+    };
+  };
+}
+
+pub circuit_is_no_program : (content : Option (List ℕ)) (bytes shown : List ℕ) (fault : QasmFault) → bytes_of files.Circuit content ≡ Ok bytes → shown ≡ bytes
+    → IsReading shown (Err fault) → CircuitOf content (Err (answers.Qasm fault))
+circuit_is_no_program content bytes shown fault whole same reading = record {
+  stages = record {
+    given = Ok bytes;
+    is = sym whole;
+    goes_on = record {
+      given = Err (answers.Qasm fault);
+      is = record { reading = Err fault; is = subst (λ (b : List ℕ). IsReading b (Err fault)) same reading; outcome_is = refl };
+      goes_on = refl;
+    };
+  };
+}
+
+pub found_is : (shown program : List Placed) (read : Option Parts) (outcome : Option Parts) → shown ≡ program → read ≡ flat shown → read ≡ outcome → ok_or outcome answers.Unbuilt ≡ circuit_of program
+found_is shown program read outcome same is as_read = ap (λ (o : Option Parts). ok_or o answers.Unbuilt) (sym as_read ∙ is ∙ ap flat same)
+
+refused_by : (content : Option (List ℕ)) (bytes shown : List ℕ) (fault : QasmFault) → bytes_of files.Circuit content ≡ Ok bytes → shown ≡ bytes
+    → UnlessMemory (IsReading shown) (Err fault) → StopsAt files.Circuit CircuitOf content (refusal_of fault)
+refused_by content bytes shown faults.NoMemory whole same reading = tt
+refused_by content bytes shown faults.Header whole same reading = circuit_is_no_program content bytes shown faults.Header whole same reading
+refused_by content bytes shown (faults.Lex at) whole same reading = circuit_is_no_program content bytes shown (faults.Lex at) whole same reading
+refused_by content bytes shown (faults.LongWord at) whole same reading = circuit_is_no_program content bytes shown (faults.LongWord at) whole same reading
+refused_by content bytes shown (faults.BigNumber at) whole same reading = circuit_is_no_program content bytes shown (faults.BigNumber at) whole same reading
+refused_by content bytes shown (faults.Deep at) whole same reading = circuit_is_no_program content bytes shown (faults.Deep at) whole same reading
+refused_by content bytes shown (faults.Statement at) whole same reading = circuit_is_no_program content bytes shown (faults.Statement at) whole same reading
+refused_by content bytes shown (faults.Large at) whole same reading = circuit_is_no_program content bytes shown (faults.Large at) whole same reading
+
+pub refused : (content : Option (List ℕ)) (bytes shown : List ℕ) (fault : QasmFault) (answer : Answer) → bytes_of files.Circuit content ≡ Ok bytes → shown ≡ bytes
+    → UnlessMemory (IsReading shown) (Err fault) → answer ≡ refusal_of fault → StopsAt files.Circuit CircuitOf content answer
+refused content bytes shown fault answer whole same reading is = subst (StopsAt files.Circuit CircuitOf content) (sym is) (refused_by content bytes shown fault whole same reading)
 
 -- ---- what a reader of bytes found
 

@@ -2,6 +2,10 @@
 use Rattle.std.specs.Prelude.{◌≡◌, ℕ, ◌^◌, nat_le, List, length, Option, Some, None, Result, Ok, Err, if◌then◌else◌}
 use Rattle.qc_base.specs.Shelf.{Contents}
 use Rattle.circuit_core.specs.Circuit.{Parts, qubit_count}
+use Rattle.qasm_read.specs.declared.fault.QasmFault.{QasmFault}
+use Rattle.qasm_read.specs.declared.fault.QasmFault.TheVariants as faults
+use Rattle.qasm_read.specs.declared.statement.Placed.{Placed}
+use Rattle.qasm_read.specs.Read.{IsReading}
 use Rattle.trap_model.specs.Trap.{Lists}
 use Rattle.step_rules.specs.Setting.{Setting, setting_of}
 use Rattle.qccd.specs.declared.answer.File.{File}
@@ -9,7 +13,8 @@ use Rattle.qccd.specs.declared.answer.File.TheVariants.{Circuit, Trap}
 use Rattle.qccd.specs.declared.answer.Answer.{Answer}
 use Rattle.qccd.specs.declared.answer.Answer.TheVariants as answers
 use Rattle.qccd.specs.Wanted.{Files, files_of}
-use Rattle.qccd.specs.Forms.{IsCxText, IsZoneText}
+use Rattle.qccd.specs.Forms.{IsZoneText}
+use Rattle.qccd.specs.Flat.{circuit_of}
 use Rattle.qccd.specs.Filling.{declared_qubits, filled, room}
 use Rattle.qccd.specs.Stages.{Then, Is}
 
@@ -32,8 +37,25 @@ Reads {X} Spells bytes (Err answer) = (answer ≡ answers.Unbuilt) × ((x : X) �
 abbrev pub FileOf : {X : Type 0} → File → (List ℕ → X → Type 0) → Option (List ℕ) → Result X Answer → Type 0
 FileOf file Spells content = Then (Is (bytes_of file content)) (Reads Spells)
 
-abbrev pub CircuitOf : Option (List ℕ) → Result Parts Answer → Type 0
-CircuitOf content = FileOf Circuit IsCxText content
+-- a program, or the answer to a text that isn't one
+abbrev pub or_qasm : Result (List Placed) QasmFault → Result (List Placed) Answer
+or_qasm (Ok program) = Ok program
+or_qasm (Err fault) = Err (answers.Qasm fault)
+
+-- the answer to a text that isn't a program; want of memory is no fault of it
+abbrev pub refusal_of : QasmFault → Answer
+refusal_of faults.NoMemory = answers.NoMemory
+refusal_of fault = answers.Qasm fault
+
+-- what the bytes are as a program
+pub record ProgramOf (bytes : List ℕ) (outcome : Result (List Placed) Answer) : Type 0 where
+  pub reading : Result (List Placed) QasmFault
+  pub is : IsReading bytes reading
+  pub outcome_is : outcome ≡ or_qasm reading
+
+-- the circuit's file: its bytes, the program that they are, and the circuit of the program
+pub record CircuitOf (content : Option (List ℕ)) (outcome : Result Parts Answer) : Type 0 where
+  pub stages : Then (Is (bytes_of Circuit content)) (λ bytes. Then (ProgramOf bytes) (λ program. Is (circuit_of program))) outcome
 
 abbrev pub TrapOf : Option (List ℕ) → Result Lists Answer → Type 0
 TrapOf content = FileOf Trap IsZoneText content

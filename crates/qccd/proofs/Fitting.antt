@@ -1,0 +1,119 @@
+-- Operations in front of others, and that they fit the register.
+use Rattle.std.proofs.Common.{◌≡◌, ◌≢◌, eqb, true, false, Bool, ℕ, ◌<◌, List, [], ◌∷◌, ◌++◌, length, Option, Some, None, refl, sym, ap, subst, ◌∙◌, arith, append_assoc}
+use Rattle.std.specs.Prelude.{All, nat_lt, nat_le, ◌≤◌, ◌&&◌, if◌then◌else◌}
+use Rattle.std.specs.Str.{bytes_eq}
+use Rattle.std.proofs.lemmas.Bool.{eqb-false, ltb-true, leb-true}
+use Rattle.std.proofs.lemmas.Option.{same_Some, none-some}
+use Rattle.std.proofs.lemmas.List.Elements.{All-nil, All-cons}
+use Rattle.qc_base.specs.declared.ids.Qubit.{Qubit}
+use Rattle.circuit_core.specs.declared.op.Op.{Op}
+use Rattle.circuit_core.specs.declared.op.Op.TheVariants.{Cx}
+use Rattle.circuit_core.specs.Circuit.{IsOpOn}
+use Rattle.circuit_core.specs.Identifier.{is_identifier}
+use Rattle.qasm_read.specs.declared.arg.Arg.{Arg}
+use Rattle.qasm_read.specs.declared.qop.Qop.{Qop}
+use Rattle.qasm_read.specs.declared.qop.Qop.TheVariants as operations
+use Rattle.qasm_read.specs.declared.statement.Statement.{Statement}
+use Rattle.qasm_read.specs.declared.statement.Statement.TheVariants as statements
+use Rattle.qasm_read.specs.declared.statement.Placed.{Placed}
+use Rattle.qccd.specs.Flat.{◌>>=◌, index_of, cx_on, cx_of, op_of, ops_of, is_within}
+
+-- these operations, and others behind them
+abbrev pub behind : List Op → Option (List Op) → Option (List Op)
+behind front None = None
+behind front (Some ops) = Some (front ++ ops)
+
+pub behind-none : (o : Option (List Op)) → behind [] o ≡ o
+behind-none None = refl
+behind-none (Some ops) = refl
+
+pub behind-push : (front : List Op) (op : Op) (o : Option (List Op)) → behind (front ++ op ∷ []) o ≡ behind front (o >>= (λ ops. Some (op ∷ ops)))
+behind-push front op None = refl
+behind-push front op (Some ops) = ap (λ (l : List Op). Some l) (append_assoc front (op ∷ []) ops)
+
+-- ---- what a value was made of
+
+record Made {A B : Type 0} (o : Option A) (f : A → Option B) (y : B) : Type 0 where
+  pub x : A
+  pub is : o ≡ Some x
+  pub made : f x ≡ Some y
+
+made : {A B : Type 0} (o : Option A) (f : A → Option B) (y : B) → (o >>= f) ≡ Some y → Made o f y
+made None f y e = absurd (none-some y e)
+made (Some x) f y e = record { x = x; is = refl; made = e }
+
+passed : {A : Type 0} (b : Bool) (x y : A) → (if b then Some x else None) ≡ Some y → (b ≡ true) × (x ≡ y)
+passed true x y e = (refl, same_Some x y e)
+passed false x y e = absurd (none-some y e)
+
+failed : {A : Type 0} (b : Bool) (x y : A) → (if b then None else Some x) ≡ Some y → (b ≡ false) × (x ≡ y)
+failed false x y e = (refl, same_Some x y e)
+failed true x y e = absurd (none-some y e)
+
+both : (a b : Bool) → (a && b) ≡ true → b ≡ true
+both true b e = e
+both false b e = cc
+
+-- the last of four
+last : (a b c d : Bool) → (a && b && c && d) ≡ true → d ≡ true
+last a b c true e = refl
+last true true true false e = cc
+last true true false false e = cc
+last true false true false e = cc
+last true false false false e = cc
+last false true true false e = cc
+last false true false false e = cc
+last false false true false e = cc
+last false false false false e = cc
+
+pub within_few : (name : List ℕ) (size : ℕ) (placed : List Placed) (b : Bool) → b ≡ is_within name size placed → b ≡ true → length placed ≤ 10000
+within_few name size placed b e holds = leb-true (length placed) 10000 (last (is_identifier name) (nat_le 1 size) (nat_le size 128) (nat_le (length placed) 10000) (sym e ∙ holds))
+
+-- ---- operations that fit
+
+index_below : (name : List ℕ) (size : ℕ) (arg : Arg) (i : ℕ) → index_of name size arg ≡ Some i → i < size
+index_below name size arg i e =
+    let m = made arg.index (λ index. if bytes_eq arg.name name && nat_lt index size then Some index else None) i e in
+    let p = passed (bytes_eq arg.name name && nat_lt m.x size) m.x i m.made in
+    let below = both (bytes_eq arg.name name) (nat_lt m.x size) p.0 in
+    subst (λ (n : ℕ). n < size) p.1 (ltb-true m.x size below)
+
+cx_fits : (size control target : ℕ) (op : Op) → control < size → target < size → cx_on control target ≡ Some op → IsOpOn size op
+cx_fits size control target op first second e =
+    let f = failed (eqb control target) (Cx (record { 0 = control }) (record { 0 = target }) None) op e in
+    let other : control ≢ target = eqb-false control target f.0 in
+    subst (IsOpOn size) f.1 (first, second, (λ same. other (ap (λ (q : Qubit). q.0) same)), refl)
+
+cx_of_fits : (name : List ℕ) (size : ℕ) (q : Qop) (op : Op) → cx_of name size q ≡ Some op → IsOpOn size op
+cx_of_fits name size (operations.Cx control target) op e =
+    let a = made (index_of name size control) (λ first. index_of name size target >>= cx_on first) op e in
+    let b = made (index_of name size target) (cx_on a.x) op a.made in
+    cx_fits size a.x b.x op (index_below name size control a.x a.is) (index_below name size target b.x b.is) b.made
+cx_of_fits name size (operations.U params arg) op e = absurd (none-some op e)
+cx_of_fits name size (operations.Call gate params args) op e = absurd (none-some op e)
+cx_of_fits name size (operations.Measure source target) op e = absurd (none-some op e)
+cx_of_fits name size (operations.Reset arg) op e = absurd (none-some op e)
+
+op_fits : (name : List ℕ) (size : ℕ) (s : Statement) (op : Op) → op_of name size s ≡ Some op → IsOpOn size op
+op_fits name size (statements.Apply q) op e = cx_of_fits name size q op e
+op_fits name size (statements.Include text) op e = absurd (none-some op e)
+op_fits name size (statements.Register quantum other n) op e = absurd (none-some op e)
+op_fits name size (statements.Gate gate params qubits body) op e = absurd (none-some op e)
+op_fits name size (statements.Opaque gate params qubits) op e = absurd (none-some op e)
+op_fits name size (statements.Barrier args) op e = absurd (none-some op e)
+op_fits name size (statements.If creg value q) op e = absurd (none-some op e)
+
+pub record Fit (size count : ℕ) (ops : List Op) : Type 0 where
+  pub as_many : length ops ≡ count
+  pub fit : All (IsOpOn size) ops
+
+pub ops_fit : (name : List ℕ) (size : ℕ) (placed : List Placed) (ops : List Op) → ops_of name size placed ≡ Some ops → Fit size (length placed) ops
+ops_fit name size [] ops e = subst (Fit size 0) (same_Some [] ops e) (record { as_many = refl; fit = All-nil (IsOpOn size) })
+ops_fit name size (p ∷ rest) ops e =
+    let a = made (op_of name size p.statement) (λ op. ops_of name size rest >>= (λ more. Some (op ∷ more))) ops e in
+    let b = made (ops_of name size rest) (λ more. Some (a.x ∷ more)) ops a.made in
+    let more = ops_fit name size rest b.x b.is in
+    subst (Fit size (length (p ∷ rest))) (same_Some (a.x ∷ b.x) ops b.made) (record {
+      as_many = omega (arith, more.as_many);
+      fit = All-cons (IsOpOn size) a.x b.x (op_fits name size p.statement a.x a.is) more.fit;
+    })
