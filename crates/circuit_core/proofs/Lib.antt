@@ -1,2 +1,3 @@
 pub mod Meeting
 pub mod Wires
+pub mod Labels

@@ -1,6 +1,9 @@
 //! Reads and writes over memory.
 
-use crate::{Failed, MemShelf, MemSink, Name, ReadFault, read_whole, write_all};
+use crate::{
+    Failed, MemShelf, MemSink, Name, ReadFault, behind, number_until, read_whole,
+    small_number_until, word_until, write_all,
+};
 use std::test::Fail;
 
 #[test]
@@ -45,5 +48,30 @@ fn names_are_their_bytes(rt: HostRuntime) -> Result<(), Fail> {
     let name = Name::from_bytes(rt.alloc(), b"q")?;
     assert!(rt; name.copy(rt.alloc())? == name);
     assert!(rt; name.bytes() == b"q".as_slice());
+    Ok(())
+}
+
+#[test]
+fn words_and_numbers_end_at_their_sign(rt: HostRuntime) -> Result<(), Fail> {
+    assert!(rt; behind(b"step 1", b"step ") == Some(b"1".as_slice()));
+    assert!(rt; behind(b"steps 1", b"step ").is_none());
+    assert!(rt; word_until(b"a b c", b' ') == Some((b"a".as_slice(), b"b c".as_slice())));
+    assert!(rt; word_until(b"abc", b' ').is_none());
+    let largest = number_until(b"18446744073709551615\n", b'\n');
+    assert!(rt; largest == Some((18446744073709551615, b"".as_slice())));
+    let numbers: [&[u8]; 6] = [
+        b"18446744073709551616\n",
+        b"01\n",
+        b"+1\n",
+        b"-1\n",
+        b" 1\n",
+        b"\n",
+    ];
+    for number in numbers {
+        assert!(rt; number_until(number, b'\n').is_none());
+    }
+    let small = small_number_until(b"4294967295 1", b' ');
+    assert!(rt; small == Some((4294967295, b"1".as_slice())));
+    assert!(rt; small_number_until(b"4294967296 1", b' ').is_none());
     Ok(())
 }

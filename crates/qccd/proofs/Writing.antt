@@ -1,5 +1,5 @@
 -- One text handed over behind another.
-use Rattle.std.proofs.Common.{◌≡◌, ℕ, ◌+◌, ◌≤◌, ◌<◌, List, ◌++◌, length, take, Option, Result, Ok, Err, arith, length-append}
+use Rattle.std.proofs.Common.{◌≡◌, ℕ, ◌+◌, ◌≤◌, ◌<◌, List, ◌++◌, length, take, Option, Result, Ok, Err, arith, length-append, append_assoc}
 use Rattle.std.proofs.lemmas.List.{take-append-le}
 use Rattle.std.proofs.Math.Seq.{take-append-add}
 use Rattle.std.specs.Prelude.{OnErr}
@@ -24,3 +24,7 @@ part_of_second before mid now first second took part = record {
 pub on_second : {T E : Type 0} (result : Result T E) (before mid now : Option (List ℕ)) (first second : List ℕ) → Took before mid first → OnErr result (TookPart mid now second) → OnErr result (TookPart before now (first ++ second))
 on_second (Ok x) before mid now first second took part = part
 on_second (Err e) before mid now first second took part = part_of_second before mid now first second took part
+
+-- a line by its parts
+pub in_parts : (a s b o d n e : List ℕ) → a ++ ((s ++ b) ++ ((o ++ d) ++ (n ++ e))) ≡ (a ++ s) ++ ((((b ++ o) ++ d) ++ n) ++ e)
+in_parts a s b o d n e = simp append_assoc

@@ -1,4 +1,4 @@
--- What the words and the files come to: a trap, a circuit and a placement, or a refusal.
+-- What the words and the files come to: something to write, or a refusal.
 use Rattle.std.specs.Prelude.{◌≡◌, ℕ, ◌^◌, nat_le, List, length, Option, Some, None, Result, Ok, Err, if◌then◌else◌}
 use Rattle.qc_base.specs.Shelf.{Contents}
 use Rattle.circuit_core.specs.Circuit.{Parts, qubit_count}
@@ -7,21 +7,32 @@ use Rattle.qasm_read.specs.declared.fault.QasmFault.TheVariants as faults
 use Rattle.qasm_read.specs.declared.statement.Placed.{Placed}
 use Rattle.qasm_read.specs.Read.{IsReading}
 use Rattle.trap_model.specs.Trap.{Lists}
+use Rattle.qc_base.specs.declared.ids.Qubit.{Qubit}
+use Rattle.step_rules.specs.declared.action.Action.{Action}
 use Rattle.step_rules.specs.Setting.{Setting, setting_of}
+use Rattle.step_rules.specs.Play.{Plays}
+use Rattle.schedule_play.specs.declared.fault.PlayFault.{PlayFault}
+use Rattle.schedule_play.specs.declared.fault.PlayFault.TheVariants as plays
+use Rattle.schedule_play.specs.Faults.{IsFault}
+use Rattle.schedule_text.specs.declared.text_fault.TextFault.{TextFault}
+use Rattle.schedule_text.specs.declared.text_fault.TextFault.TheVariants as texts
+use Rattle.schedule_text.specs.Reading.{Spells, IsBadLine}
 use Rattle.qccd.specs.declared.answer.File.{File}
-use Rattle.qccd.specs.declared.answer.File.TheVariants.{Circuit, Trap}
+use Rattle.qccd.specs.declared.answer.File.TheVariants.{Circuit, Trap, Schedule}
 use Rattle.qccd.specs.declared.answer.Answer.{Answer}
 use Rattle.qccd.specs.declared.answer.Answer.TheVariants as answers
 use Rattle.qccd.specs.Wanted.{Files, files_of}
 use Rattle.qccd.specs.Forms.{IsZoneText}
 use Rattle.qccd.specs.Flat.{circuit_of}
 use Rattle.qccd.specs.Filling.{declared_qubits, filled, room}
+use Rattle.qccd.specs.Work.{Planned, Work, make, judged}
 use Rattle.qccd.specs.Stages.{Then, Is}
 
 -- the most bytes of a file
 abbrev pub limit_of : File → ℕ
 limit_of Circuit = 2 ^ 20
 limit_of Trap = 2 ^ 18
+limit_of Schedule = 2 ^ 30
 
 -- the bytes of a file that can be read and isn't too long
 abbrev pub bytes_of : File → Option (List ℕ) → Result (List ℕ) Answer
@@ -60,9 +71,47 @@ pub record CircuitOf (content : Option (List ℕ)) (outcome : Result Parts Answe
 abbrev pub TrapOf : Option (List ℕ) → Result Lists Answer → Type 0
 TrapOf content = FileOf Trap IsZoneText content
 
+-- ---- a compilation
+
 -- the qubits in declared order, where there is room; another placement isn't built yet
-abbrev pub placed : Parts → Lists → Result Setting Answer
-placed circuit trap = if nat_le (qubit_count circuit) (room trap.zones) then Ok (setting_of trap circuit (filled trap.zones (declared_qubits circuit))) else Err answers.Unbuilt
+abbrev pub placed : Parts → Lists → Result Work Answer
+placed circuit trap = if nat_le (qubit_count circuit) (room trap.zones) then Ok (make (setting_of trap circuit (filled trap.zones (declared_qubits circuit)))) else Err answers.Unbuilt
+
+-- ---- a check
+
+-- the bytes are the text of this pair and of no other, or that line of them is the first bad one
+abbrev pub TextOf : Lists → Parts → List ℕ → Result Planned Answer → Type 0
+TextOf trap circuit bytes (Ok pair) =
+    Spells trap circuit pair.placement pair.steps bytes
+    × ((placement : List (List Qubit)) (steps : List (List Action)) → Spells trap circuit placement steps bytes → (placement ≡ pair.placement) × (steps ≡ pair.steps))
+TextOf trap circuit bytes (Err (answers.Text line)) = IsBadLine trap circuit bytes line
+TextOf trap circuit bytes (Err answer) = ⊥
+
+-- the answer to bytes that are no text; want of memory is no fault of theirs
+abbrev pub no_text : TextFault → Answer
+no_text (texts.Line number) = answers.Text number
+no_text texts.NoMemory = answers.NoMemory
+
+-- the schedule plays, or that is its first fault
+abbrev pub VerdictOf : Setting → List (List Action) → Result Work Answer → Type 0
+VerdictOf setting steps (Ok work) = Plays setting steps × (work ≡ judged setting steps)
+VerdictOf setting steps (Err (answers.Illegal fault)) = IsFault setting steps fault
+VerdictOf setting steps (Err answer) = ⊥
+
+-- the answer to a fault; want of memory is none of the schedule
+abbrev pub illegal_of : PlayFault → Answer
+illegal_of plays.NoMemory = answers.NoMemory
+illegal_of fault = answers.Illegal fault
+
+-- the pair that the bytes are the text of, and whether it plays
+abbrev pub JudgedText : Lists → Parts → List ℕ → Result Work Answer → Type 0
+JudgedText trap circuit bytes = Then (TextOf trap circuit bytes) (λ (pair : Planned). VerdictOf (setting_of trap circuit pair.placement) pair.steps)
+
+-- the schedule's file: its bytes, and what they are
+abbrev pub JudgedOf : Lists → Parts → Option (List ℕ) → Result Work Answer → Type 0
+JudgedOf trap circuit content = Then (Is (bytes_of Schedule content)) (JudgedText trap circuit)
+
+-- ---- both
 
 -- what a read of each file finds under a name
 abbrev pub Found : Type 0
@@ -76,13 +125,23 @@ all_of contents file = contents
 abbrev pub all_but : File → Contents → Found
 all_but Circuit contents Circuit name = None
 all_but Circuit contents Trap name = contents name
+all_but Circuit contents Schedule name = contents name
 all_but Trap contents Circuit name = contents name
 all_but Trap contents Trap name = None
+all_but Trap contents Schedule name = contents name
+all_but Schedule contents Circuit name = contents name
+all_but Schedule contents Trap name = contents name
+all_but Schedule contents Schedule name = None
 
--- The words name a circuit and a trap; each file is read and understood, the circuit first; then the qubits are placed.
-abbrev pub Prepares : Found → List (List ℕ) → Result Setting Answer → Type 0
+-- what is done with circuit and trap: a compilation, or a check of the schedule that is named
+abbrev pub WorkOf : Contents → Option (List ℕ) → Parts → Lists → Result Work Answer → Type 0
+WorkOf found None circuit trap = Is (placed circuit trap)
+WorkOf found (Some name) circuit trap = JudgedOf trap circuit (found name)
+
+-- The words name a circuit and a trap, and perhaps a schedule; each file is read and understood, the circuit first.
+abbrev pub Prepares : Found → List (List ℕ) → Result Work Answer → Type 0
 Prepares found words =
     Then (Is (files_of words)) (λ (asked : Files).
     Then (CircuitOf (found Circuit asked.circuit)) (λ circuit.
     Then (TrapOf (found Trap asked.trap)) (λ trap.
-    Is (placed circuit trap))))
+    WorkOf (found Schedule) asked.schedule circuit trap)))

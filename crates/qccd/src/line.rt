@@ -1,19 +1,27 @@
-//! Lines with a number in them, which take no memory.
+//! Lines with numbers in them, which take no memory.
 
-ghost use Rattle.std.specs.Prelude.{◌≡◌, ◌++◌, OnOk, OnErr};
+ghost use Rattle.std.specs.Prelude.{◌≡◌, ◌++◌, [], OnOk, OnErr, decimal};
 ghost use Rattle.qc_base.specs.Causes.{HasCause};
 ghost use Rattle.qc_base.specs.Sink.{Took, TookPart};
-ghost use Rattle.qccd.specs.Line.{line_text, digits_of};
+ghost use Rattle.qccd.specs.Line.{line_text, part_text};
 
 use itoa::Buffer;
 use qc_base::{Failed, Sink, write_all};
 
-/// A text with a number in it, or without one.
+/// A number, or none, and the text behind it.
+#[derive(Clone, Copy, Debug)]
+pub struct Part {
+    pub number: Option<u64>,
+    pub text: &'static [u8],
+}
+
+/// A text with up to three numbers in it.
 #[derive(Clone, Copy, Debug)]
 pub struct Line {
     pub start: &'static [u8],
-    pub number: Option<u64>,
-    pub end: &'static [u8],
+    pub first: Part,
+    pub second: Part,
+    pub third: Part,
 }
 
 /// Hands over one text and then another, or stops at the first that fails.
@@ -26,18 +34,40 @@ fn write_both<K: Sink>(sink: &mut K, first: &[u8], second: &[u8]) -> Result<(), 
     write_all(sink, second)
 }
 
-/// Hands over a number in decimal, and then a text.
-fn write_number<K: Sink>(sink: &mut K, number: Option<u64>, end: &[u8]) -> Result<(), Failed>
-    ensures ok { OnOk result (Took (K.taken sink.old) (K.taken sink.new) (digits_of number ++ end.now)) }
-    ensures err { OnErr result (TookPart (K.taken sink.old) (K.taken sink.new) (digits_of number ++ end.now)) }
-    ensures cause { HasCause (K.faults sink.old) (K.faults sink.new) result }
-{
-    match number {
-        Some(number) => {
-            let mut buffer = Buffer::new();
-            write_both(sink, buffer.format(number).as_bytes(), end)
+impl Part {
+    /// Nothing.
+    pub fn none() -> Part
+        ensures { part_text result ≡ [] }
+    {
+        Part {
+            number: None,
+            text: b"",
         }
-        None => write_all(sink, end),
+    }
+
+    /// A number and the text behind it.
+    pub fn of(number: u64, text: &'static [u8]) -> Part
+        ensures { part_text result ≡ decimal number ++ text.now }
+    {
+        Part {
+            number: Some(number),
+            text,
+        }
+    }
+
+    /// Hands over the number in decimal, and then the text.
+    fn write_to<K: Sink>(&self, sink: &mut K) -> Result<(), Failed>
+        ensures ok { OnOk result (Took (K.taken sink.old) (K.taken sink.new) (part_text self.now)) }
+        ensures err { OnErr result (TookPart (K.taken sink.old) (K.taken sink.new) (part_text self.now)) }
+        ensures cause { HasCause (K.faults sink.old) (K.faults sink.new) result }
+    {
+        match self.number {
+            Some(number) => {
+                let mut buffer = Buffer::new();
+                write_both(sink, buffer.format(number).as_bytes(), self.text)
+            }
+            None => write_all(sink, self.text),
+        }
     }
 }
 
@@ -48,9 +78,42 @@ impl Line {
     {
         Line {
             start: text,
-            number: None,
-            end: b"",
+            first: Part::none(),
+            second: Part::none(),
+            third: Part::none(),
         }
+    }
+
+    /// A line with one number.
+    pub fn numbered(start: &'static [u8], number: u64, end: &'static [u8]) -> Line
+        ensures { line_text result ≡ start.now ++ decimal number ++ end.now }
+    {
+        Line {
+            start,
+            first: Part::of(number, end),
+            second: Part::none(),
+            third: Part::none(),
+        }
+    }
+
+    /// Hands over the last two parts.
+    fn write_end<K: Sink>(&self, sink: &mut K) -> Result<(), Failed>
+        ensures ok { OnOk result (Took (K.taken sink.old) (K.taken sink.new) (part_text self.now.second ++ part_text self.now.third)) }
+        ensures err { OnErr result (TookPart (K.taken sink.old) (K.taken sink.new) (part_text self.now.second ++ part_text self.now.third)) }
+        ensures cause { HasCause (K.faults sink.old) (K.faults sink.new) result }
+    {
+        self.second.write_to(sink)?;
+        self.third.write_to(sink)
+    }
+
+    /// Hands over all three parts.
+    fn write_parts<K: Sink>(&self, sink: &mut K) -> Result<(), Failed>
+        ensures ok { OnOk result (Took (K.taken sink.old) (K.taken sink.new) (part_text self.now.first ++ (part_text self.now.second ++ part_text self.now.third))) }
+        ensures err { OnErr result (TookPart (K.taken sink.old) (K.taken sink.new) (part_text self.now.first ++ (part_text self.now.second ++ part_text self.now.third))) }
+        ensures cause { HasCause (K.faults sink.old) (K.faults sink.new) result }
+    {
+        self.first.write_to(sink)?;
+        self.write_end(sink)
     }
 
     /// Hands over the line.
@@ -60,6 +123,6 @@ impl Line {
         ensures cause { HasCause (K.faults sink.old) (K.faults sink.new) result }
     {
         write_all(sink, self.start)?;
-        write_number(sink, self.number, self.end)
+        self.write_parts(sink)
     }
 }

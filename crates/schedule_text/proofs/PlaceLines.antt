@@ -6,7 +6,7 @@ use Rattle.circuit_core.specs.Circuit.{Parts}
 use Rattle.trap_model.specs.declared.parts.ZonePart.{ZonePart}
 use Rattle.schedule_text.specs.Text.{place_lines}
 
-no_lists : (circuit : Parts) (zones : List ZonePart) → place_lines circuit zones [] ≡ []
+pub no_lists : (circuit : Parts) (zones : List ZonePart) → place_lines circuit zones [] ≡ []
 no_lists circuit [] = refl
 no_lists circuit (zone ∷ zones) = refl
 

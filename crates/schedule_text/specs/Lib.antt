@@ -1,1 +1,5 @@
 pub mod Text
+pub mod Reading
+pub mod Progress
+pub mod Words
+pub mod Standing

@@ -1,9 +1,9 @@
 -- The text of a schedule: the placement, then the steps with their actions, each on a line of its own. The format is this project's.
-use Rattle.std.specs.Prelude.{ℕ, ◌+◌, ◌-◌, nat_lt, if◌then◌else◌, List, [], ◌∷◌, ◌++◌, length, codes, decimal, slice_get}
+use Rattle.std.specs.Prelude.{ℕ, ◌+◌, List, [], ◌∷◌, ◌++◌, length, codes, decimal, slice_get}
 use Rattle.std.specs.List.{flat_map}
 use Rattle.std.specs.Option.{option_map_or}
 use Rattle.qc_base.specs.declared.ids.Qubit.{Qubit}
-use Rattle.circuit_core.specs.declared.circuit.Reg.{Reg}
+use Rattle.circuit_core.specs.Label.{label}
 use Rattle.circuit_core.specs.declared.op.Op.{Op}
 use Rattle.circuit_core.specs.declared.op.Op.TheVariants.{Cx}
 use Rattle.circuit_core.specs.Circuit.{Parts}
@@ -15,14 +15,6 @@ use Rattle.step_rules.specs.declared.action.Action.{Action}
 use Rattle.step_rules.specs.declared.action.Action.TheVariants as actions
 use Rattle.step_rules.specs.Placement.{ion_of}
 use Rattle.step_rules.specs.Setting.{Setting, qubits_of}
-
--- a qubit by its register and its index there
-abbrev pub label_in : List Reg → ℕ → List ℕ
-label_in [] index = []
-label_in (reg ∷ regs) index = if nat_lt index reg.size then reg.name ++ codes "[" ++ decimal index ++ codes "]" else label_in regs (index - reg.size)
-
-abbrev pub label : Parts → Qubit → List ℕ
-label circuit qubit = label_in circuit.qregs qubit.0
 
 -- an operation, as a circuit file has it
 abbrev pub op_text : Parts → Op → List ℕ

@@ -2,8 +2,9 @@
 
 ghost use Rattle.std.specs.Prelude.{◌≡◌, ℕ, ◌+◌, ◌<◌, drop, length, ◌++◌, ◌∷◌, [], List, OnOk, IfOk, decimal, codes};
 ghost use Rattle.std.specs.List.{flat_map};
+ghost use Rattle.circuit_core.specs.Label.{label};
 ghost use Rattle.step_rules.specs.Setting.{setting_of, qubits_of};
-ghost use Rattle.schedule_text.specs.Text.{at, label, op_text, place_line, place_lines, op_line, end_text, zone_end, two_places, split_line, move_line, cross_line, merge_line, swap_line, performed_line, action_line, step_lines, schedule_text, ion_words};
+ghost use Rattle.schedule_text.specs.Text.{at, op_text, place_line, place_lines, op_line, end_text, zone_end, two_places, split_line, move_line, cross_line, merge_line, swap_line, performed_line, action_line, step_lines, schedule_text, ion_words};
 
 use circuit_core::{Circuit, Op};
 use itoa::Buffer;
@@ -143,7 +144,8 @@ fn push_ions(out: &mut Vec<u8>, placement: &Placement, op: &Op) -> Result<(), No
     Ok(())
 }
 
-fn push_op_line(
+/// The line of an operation from its number on.
+pub(crate) fn push_op_line(
     out: &mut Vec<u8>,
     trap: &Trap,
     circuit: &Circuit,

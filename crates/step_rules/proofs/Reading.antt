@@ -118,11 +118,6 @@ flag_says flags qubits n flag h read are = sym (are n h) ∙ get_or_default flag
 
 -- ---- the least that is in no list
 
-pub find_on : (p : ℕ → Bool) (k n : ℕ) → k < n → p k ≡ false → find p (range_with_len k (n - k)) ≡ find p (range_with_len (k + 1) (n - (k + 1)))
-find_on p k n h no_k =
-    let e : n - k ≡ suc (n - (k + 1)) = omega arith in
-    ap (λ (m : ℕ). find p (range_with_len k m)) e ∙ ap (λ (b : Bool). cond b (Some k) (find p (range_with_len (k + 1) (n - (k + 1))))) no_k
-
 pub find_same : (p q : ℕ → Bool) (a n : ℕ) → ((k : ℕ) → a ≤ k → k < a + n → p k ≡ q k) → find p (range_with_len a n) ≡ find q (range_with_len a n)
 find_same p q a zero same = refl
 find_same p q a (suc n) same =

@@ -37,8 +37,8 @@ impl Footprint {
         }
     }
 
-    // Whether both have a place or a junction in common.
-    pub(crate) fn meets(&self, other: &Footprint) -> bool
+    /// Whether both have a place or a junction in common. It takes no memory.
+    pub fn meets(&self, other: &Footprint) -> bool
         ensures { result ≡ list_any (is_worked_on (spots other.now)) (spots self.now) }
     {
         let second = match self.second {

@@ -1,5 +1,5 @@
 use Rattle.std.proofs.Common.{◌≡◌, drop}
-use Rattle.schedule_text.specs.Text.{label_in}
+use Rattle.circuit_core.specs.Label.{label_in}
 use Rattle.schedule_text.proofs.printer.push_label.Given as goal
 
 abbrev pub invariant-loop-reg : goal.invariant-loop-reg

@@ -1,6 +1,6 @@
 use Rattle.std.proofs.Common.{◌≡◌, ◌++◌, take, codes}
 use Rattle.std.specs.List.{flat_map}
-use Rattle.schedule_text.specs.Text.{label}
+use Rattle.circuit_core.specs.Label.{label}
 use Rattle.schedule_text.proofs.printer.push_labels.Given as goal
 
 abbrev pub invariant-loop-qubit : goal.invariant-loop-qubit

@@ -1,6 +1,6 @@
 use Rattle.std.proofs.Common.{◌∙◌, length, not, false, rules}
 use Rattle.std.specs.Prelude.{slice_index_or}
-use Rattle.step_rules.proofs.Reading.{find_on}
+use Rattle.circuit_core.proofs.Labels.{find_on}
 use Rattle.step_rules.proofs.placement.unmarked.Goals as goal
 
 pub loop-number-preserved : goal.loop-number-preserved

@@ -1,0 +1,6 @@
+use Rattle.std.proofs.Common.{◌≡◌, drop}
+use Rattle.circuit_core.specs.Label.{label_in}
+use Rattle.circuit_core.proofs.label.is_label.Given as goal
+
+abbrev pub invariant-loop-reg : goal.invariant-loop-reg
+invariant-loop-reg l = label_in (drop l.reg-index l.regs) l.index ≡ label_in l.regs l.number

@@ -1,0 +1,10 @@
+pub mod Lists
+pub mod LastOn
+pub mod Carried
+pub mod Owed
+pub mod Done
+pub mod Going
+pub mod Judged
+pub mod Stepped
+pub mod Played
+pub mod Verdicts

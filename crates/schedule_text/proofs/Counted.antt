@@ -1,0 +1,124 @@
+-- Qubits below a number, of which none stands twice: how many they are, and which of them are left.
+use Rattle.std.proofs.Common.{◌≡◌, ℕ, zero, suc, ◌+◌, ◌<◌, ◌≤◌, List, [], ◌∷◌, ◌++◌, length, Bool, true, false, cond, refl, sym, subst, ◌∙◌, inl, inr, arith, length-append}
+use Rattle.std.specs.Prelude.{◌==◌, All}
+use Rattle.std.proofs.lemmas.Bool.{eq-eqb, ne_eqb, cases_eq, cases_lt}
+use Rattle.std.proofs.lemmas.List.Elements.{All-nil, All-cons, All-head, All-tail, All-append, All-weaker}
+use Rattle.qc_base.specs.declared.ids.Qubit.{Qubit}
+use Rattle.step_rules.specs.Placement.{times, stands}
+use Rattle.step_rules.proofs.Reading.{times-append, times_none, times_some}
+
+-- how often the qubits below the number stand there together
+abbrev total : ℕ → List Qubit → ℕ
+total zero xs = 0
+total (suc n) xs = times n xs + total n xs
+
+total_nil : (n : ℕ) → total n [] ≡ 0
+total_nil zero = refl
+total_nil (suc n) = omega (arith, total_nil n)
+
+total_out : (n : ℕ) (x : Qubit) (xs : List Qubit) → n ≤ x.0 → total n (x ∷ xs) ≡ total n xs
+total_out zero x xs h = refl
+total_out (suc n) x xs h =
+    let there : (x.0 == n) ≡ false = ne_eqb x.0 n (λ e. omega arith) in
+    rw there (omega (arith, total_out n x xs (omega arith)))
+
+total_in : (n : ℕ) (x : Qubit) (xs : List Qubit) → x.0 < n → total n (x ∷ xs) ≡ 1 + total n xs
+total_in zero x xs h = absurd (omega arith)
+total_in (suc n) x xs h = elim (cases_eq x.0 n) [
+  | inl same ↦ (let here : (x.0 == n) ≡ true = eq-eqb x.0 n same in rw here (omega (arith, total_out n x xs (omega arith))))
+  | inr other ↦ (let there : (x.0 == n) ≡ false = ne_eqb x.0 n other in rw there (omega (arith, total_in n x xs (omega arith))))
+]
+
+total_length : (n : ℕ) (xs : List Qubit) → All (λ (qubit : Qubit). qubit.0 < n) xs → total n xs ≡ length xs
+total_length n [] all = total_nil n
+total_length n (x ∷ xs) all =
+    let P : Qubit → Type 0 = λ q. q.0 < n in
+    omega (arith, total_in n x xs (All-head P x xs all), total_length n xs (All-tail P x xs all))
+
+total_most : (n : ℕ) (xs : List Qubit) → ((k : ℕ) → times k xs ≤ 1) → total n xs ≤ n
+total_most zero xs once = omega arith
+total_most (suc n) xs once = omega (arith, once n, total_most n xs once)
+
+total_each : (n : ℕ) (xs : List Qubit) → ((k : ℕ) → k < n → times k xs ≡ 1) → total n xs ≡ n
+total_each zero xs once = refl
+total_each (suc n) xs once = omega (arith, once n (omega arith), total_each n xs (λ k h. once k (omega arith)))
+
+each_once : (n : ℕ) (xs : List Qubit) → ((k : ℕ) → times k xs ≤ 1) → n ≤ total n xs → (k : ℕ) → k < n → times k xs ≡ 1
+each_once zero xs once many k h = absurd (omega arith)
+each_once (suc n) xs once many k h = elim (cases_eq k n) [
+  | inl same ↦ subst (λ (m : ℕ). times m xs ≡ 1) (sym same) (omega (arith, once n, total_most n xs once))
+  | inr other ↦ each_once n xs once (omega (arith, once n)) k (omega arith)
+]
+
+-- where none stands twice, and there are no fewer, each stands once
+pub all_once : (n : ℕ) (xs : List Qubit) → All (λ (qubit : Qubit). qubit.0 < n) xs → ((k : ℕ) → times k xs ≤ 1) → n ≤ length xs → (k : ℕ) → k < n → times k xs ≡ 1
+all_once n xs all once many k h = each_once n xs once (omega (arith, total_length n xs all)) k h
+
+-- and where each stands once, there are as many
+pub counted : (n : ℕ) (xs : List Qubit) → All (λ (qubit : Qubit). qubit.0 < n) xs → ((k : ℕ) → k < n → times k xs ≡ 1) → length xs ≡ n
+counted n xs all once = sym (total_length n xs all) ∙ total_each n xs once
+
+pub no_others : (n : ℕ) (xs : List Qubit) (k : ℕ) → All (λ (qubit : Qubit). qubit.0 < n) xs → n ≤ k → times k xs ≡ 0
+no_others n [] k all h = refl
+no_others n (x ∷ xs) k all h =
+    let P : Qubit → Type 0 = λ q. q.0 < n in
+    let small : x.0 < n = All-head P x xs all in
+    let there : (x.0 == k) ≡ false = ne_eqb x.0 k (λ e. omega arith) in
+    rw there (omega (arith, no_others n xs k (All-tail P x xs all) h))
+
+pub at_most_once : (n : ℕ) (xs : List Qubit) → All (λ (qubit : Qubit). qubit.0 < n) xs → ((k : ℕ) → k < n → times k xs ≡ 1) → (k : ℕ) → times k xs ≤ 1
+at_most_once n xs all once k = elim (cases_lt k n) [
+  | inl h ↦ omega (arith, once k h)
+  | inr h ↦ omega (arith, no_others n xs k all h)
+]
+
+-- ---- those that are left
+
+abbrev qubit_at : ℕ → Qubit
+qubit_at n = record { 0 = n }
+
+abbrev unless : Bool → Qubit → List Qubit → List Qubit
+unless there x xs = cond there xs (x ∷ xs)
+
+-- the qubits below the number that don't stand there
+abbrev pub left_of : ℕ → List Qubit → List Qubit
+left_of zero xs = []
+left_of (suc n) xs = unless (stands n xs) (qubit_at n) (left_of n xs)
+
+unless_all : (P : Qubit → Type 0) (b : Bool) (x : Qubit) (xs : List Qubit) → P x → All P xs → All P (unless b x xs)
+unless_all P true x xs p all = all
+unless_all P false x xs p all = All-cons P x xs p all
+
+pub left_below : (n : ℕ) (xs : List Qubit) → All (λ (qubit : Qubit). qubit.0 < n) (left_of n xs)
+left_below zero xs = All-nil (λ (qubit : Qubit). qubit.0 < 0)
+left_below (suc n) xs =
+    let P : Qubit → Type 0 = λ q. q.0 < n in
+    let Q : Qubit → Type 0 = λ q. q.0 < suc n in
+    unless_all Q (stands n xs) (qubit_at n) (left_of n xs) (omega arith) (All-weaker P Q (λ x h. omega arith) (left_of n xs) (left_below n xs))
+
+last_left : (n : ℕ) (xs : List Qubit) (b : Bool) → stands n xs ≡ b → times n xs ≤ 1 → times n (unless b (qubit_at n) (left_of n xs)) + times n xs ≡ 1
+last_left n xs true there once = omega (arith, no_others n (left_of n xs) n (left_below n xs) (omega arith), times_some n xs there)
+last_left n xs false there once =
+    let here : (n == n) ≡ true = eq-eqb n n refl in
+    rw here (omega (arith, no_others n (left_of n xs) n (left_below n xs) (omega arith), times_none n xs there))
+
+unless_other : (n k : ℕ) (xs : List Qubit) (b : Bool) → (n ≡ k → ⊥) → times k (unless b (qubit_at n) xs) ≡ times k xs
+unless_other n k xs true other = refl
+unless_other n k xs false other = let there : (n == k) ≡ false = ne_eqb n k other in rw there (omega arith)
+
+left_once : (n : ℕ) (xs : List Qubit) (k : ℕ) → k < n → times k xs ≤ 1 → times k (left_of n xs) + times k xs ≡ 1
+left_once zero xs k h once = absurd (omega arith)
+left_once (suc n) xs k h once = elim (cases_eq n k) [
+  | inl same ↦ subst (λ (m : ℕ). times m (left_of (suc n) xs) + times m xs ≡ 1) same (last_left n xs (stands n xs) refl (subst (λ (m : ℕ). times m xs ≤ 1) (sym same) once))
+  | inr other ↦ omega (arith, unless_other n k (left_of n xs) (stands n xs) other, left_once n xs k (omega arith) once)
+]
+
+-- with them, each stands once
+pub filled_once : (n : ℕ) (xs : List Qubit) → ((k : ℕ) → times k xs ≤ 1) → (k : ℕ) → k < n → times k (xs ++ left_of n xs) ≡ 1
+filled_once n xs once k h = omega (arith, times-append k xs (left_of n xs), left_once n xs k h (once k))
+
+pub filled_below : (n : ℕ) (xs : List Qubit) → All (λ (qubit : Qubit). qubit.0 < n) xs → All (λ (qubit : Qubit). qubit.0 < n) (xs ++ left_of n xs)
+filled_below n xs all = All-append (λ (qubit : Qubit). qubit.0 < n) xs (left_of n xs) all (left_below n xs)
+
+pub filled_length : (n : ℕ) (xs : List Qubit) → All (λ (qubit : Qubit). qubit.0 < n) xs → ((k : ℕ) → times k xs ≤ 1) → length xs + length (left_of n xs) ≡ n
+filled_length n xs all once = sym (length-append xs (left_of n xs)) ∙ counted n (xs ++ left_of n xs) (filled_below n xs all) (filled_once n xs once)

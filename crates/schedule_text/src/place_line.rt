@@ -1,0 +1,70 @@
+//! The line of one zone.
+
+ghost use Rattle.std.specs.Prelude.{◌≡◌, ℕ, ◌<◌, ◌++◌, List, IfOk, IfSome, IsSomeAnd, All, codes};
+ghost use Rattle.qc_base.specs.declared.ids.Qubit.{Qubit as AQubit};
+ghost use Rattle.qc_base.specs.Spelling.{IsFree};
+ghost use Rattle.circuit_core.specs.Circuit.{IsCircuit, qubit_count};
+ghost use Rattle.schedule_text.specs.Text.{place_line};
+ghost use Rattle.schedule_text.specs.Words.{labels_text};
+
+use crate::words::label_behind;
+use circuit_core::Circuit;
+use qc_base::{NoMemory, Qubit, behind, word_until};
+use std::alloc::Global;
+use step_rules::Qubits;
+use trap_model::ZonePart;
+
+// What stands behind the zone's name in its line, and what stands behind the line.
+fn words_of<'a>(zone: &ZonePart, bytes: &'a [u8]) -> Option<(&'a [u8], &'a [u8])>
+    ensures found { IfSome result (λ x. bytes.now ≡ codes "place " ++ zone.now.name ++ x.0.now ++ codes "\n" ++ x.1.now) }
+    ensures only { (words rest : List ℕ) → IsFree 10 words → bytes.now ≡ codes "place " ++ zone.now.name ++ words ++ codes "\n" ++ rest
+        → IsSomeAnd result (λ x. (x.0.now ≡ words) × (x.1.now ≡ rest)) }
+{
+    let line = behind(bytes, b"place ")?;
+    let words = behind(line, zone.name.bytes())?;
+    word_until(words, b'\n')
+}
+
+// The qubits that these labels are.
+fn labels(alloc: Global, circuit: &Circuit, words: &[u8]) -> Result<Option<Vec<Qubit>>, NoMemory>
+    requires { IsCircuit circuit.now }
+    ensures found { IfOk result (λ o. IfSome o (λ list. words.now ≡ labels_text circuit.now list.items)) }
+    ensures there { IfOk result (λ o. IfSome o (λ list. All (λ qubit. qubit.0 < qubit_count circuit.now) list.items)) }
+    ensures only { IfOk result (λ o. (list : List AQubit) → All (λ qubit. qubit.0 < qubit_count circuit.now) list → words.now ≡ labels_text circuit.now list
+        → IsSomeAnd o (λ x. x.items ≡ list)) }
+{
+    let mut list = Vec::new(alloc);
+    let mut rest = words;
+    while !rest.is_empty() {
+        match label_behind(circuit, rest) {
+            Some((qubit, after)) => {
+                list.push(qubit)?;
+                rest = after;
+            }
+            None => return Ok(None),
+        }
+    }
+    Ok(Some(list))
+}
+
+/// The qubits of the zone, where the bytes begin with its line, and what stands behind the line.
+pub fn read_place_line<'a>(
+    alloc: Global,
+    circuit: &Circuit,
+    zone: &ZonePart,
+    bytes: &'a [u8],
+) -> Result<Option<(Qubits, &'a [u8])>, NoMemory>
+    requires circuit { IsCircuit circuit.now }
+    ensures found { IfOk result (λ o. IfSome o (λ x. bytes.now ≡ place_line circuit.now zone.now x.0 ++ x.1.now)) }
+    ensures there { IfOk result (λ o. IfSome o (λ x. All (λ qubit. qubit.0 < qubit_count circuit.now) x.0)) }
+    ensures only { IfOk result (λ o. (list : List AQubit) (rest : List ℕ) → All (λ qubit. qubit.0 < qubit_count circuit.now) list → bytes.now ≡ place_line circuit.now zone.now list ++ rest
+        → IsSomeAnd o (λ x. (x.0 ≡ list) × (x.1.now ≡ rest))) }
+{
+    let Some((words, rest)) = words_of(zone, bytes) else {
+        return Ok(None);
+    };
+    match labels(alloc, circuit, words)? {
+        Some(list) => Ok(Some((Qubits::from_vec(list), rest))),
+        None => Ok(None),
+    }
+}
