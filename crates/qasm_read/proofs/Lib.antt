@@ -12,3 +12,5 @@ pub mod Changes
 pub mod ProgramLaws
 pub mod Unique
 pub mod OneReading
+pub mod Identifiers
+pub mod WellFormed

@@ -1,7 +1,7 @@
 //! What an expression that is read stands in.
 
 ghost use Rattle.std.specs.Prelude.{◌≡◌, IfOk};
-ghost use Rattle.qasm_read.specs.Frames.{strength_of, hold_of, put_in};
+ghost use Rattle.qasm_read.specs.Frames.{strength_of, put_in};
 
 use crate::tree::{Tree, applied, joined, negated};
 use circuit_core::{BinOp, FunName};
@@ -29,19 +29,7 @@ pub fn strength(op: BinOp) -> u32
 }
 
 impl Frame {
-    ghost use Rattle.qasm_read.specs.Frames.{hold_of, put_in};
-
-    /// How strongly it holds the expression behind it. A parenthesis holds it until it is closed.
-    pub fn hold(&self) -> u32
-        ensures { result ≡ hold_of self.now }
-    {
-        match self {
-            Frame::Parenthesis | Frame::Function(_) => 0,
-            Frame::Left(BinOp::Add | BinOp::Sub, _) => 2,
-            Frame::Left(BinOp::Mul | BinOp::Div, _) => 3,
-            Frame::Minus | Frame::Left(BinOp::Pow, _) => 4,
-        }
-    }
+    ghost use Rattle.qasm_read.specs.Frames.{put_in};
 
     /// The expression in it.
     pub fn put(self, alloc: Global, tree: Option<Tree>) -> Result<Option<Tree>, NoMemory>

@@ -13,6 +13,7 @@ mod file;
 mod forms;
 mod frame;
 mod frames;
+mod kind;
 mod laws;
 mod names;
 mod operations;
@@ -41,6 +42,8 @@ pub use qop::Qop;
 pub use reader::read_program;
 pub use statement::{Placed, Statement};
 
+#[cfg(test)]
+mod expression_tests;
 #[cfg(test)]
 mod file_tests;
 #[cfg(test)]

@@ -1,4 +1,4 @@
-use super::{Exp, Program, QasmFault, Qop, Statement, read_program};
+use super::{Program, QasmFault, Statement, read_program};
 use qasm_tokens::{Keyword, PlacedToken, Sign, Token, TokenSource};
 use qc_base::{Name, NoMemory};
 use std::alloc::Global;
@@ -253,127 +253,25 @@ fn the_header(rt: HostRuntime) -> Result<(), Fail> {
     Ok(())
 }
 
-/// The expression in front of each operand, in a form of ours: `+ab` for `a + b`, and `~a` for `-a`.
-fn write(exp: &Exp, out: &mut Vec<u8>) -> Result<(), NoMemory> {
-    match exp {
-        Exp::Real(_) => out.push(b'r')?,
-        Exp::Int(_) => out.push(b'i')?,
-        Exp::Pi => out.push(b'p')?,
-        Exp::Id(name) => out.extend_from_slice(name.bytes())?,
-        Exp::Neg(e) => {
-            out.push(b'~')?;
-            write(e.get(), out)?;
-        }
-        Exp::Fun(f, e) => {
-            out.extend_from_slice(f.word())?;
-            write(e.get(), out)?;
-        }
-        Exp::Bin(op, a, b) => {
-            out.extend_from_slice(op.sign())?;
-            write(a.get(), out)?;
-            write(b.get(), out)?;
-        }
-    }
-    Ok(())
-}
-
-/// How the expression of `U(..) a;` is read.
-fn shape(alloc: Global, exp: &[Piece]) -> Result<Vec<u8>, QasmFault> {
+/// `U(..) a`, with so many minus signs and a name.
+fn negations(alloc: Global, count: u32) -> Result<Vec<Piece>, NoMemory> {
     let mut pieces = Vec::new(alloc);
     pieces.push(Piece::Word(Keyword::U))?;
     pieces.push(OPEN)?;
-    pieces.extend_from_slice(exp)?;
-    pieces.push(CLOSE)?;
-    pieces.push(A)?;
-    pieces.push(SEMICOLON)?;
-    let program = read(alloc, &pieces)?;
-    let mut out = Vec::new(alloc);
-    for placed in program.items() {
-        if let Statement::Apply {
-            op: Qop::U { params, .. },
-        } = &placed.statement
-        {
-            for exp in params.items() {
-                write(exp, &mut out)?;
-            }
-        }
-    }
-    Ok(out)
-}
-
-#[test]
-fn precedence(rt: HostRuntime) -> Result<(), Fail> {
-    let alloc = rt.alloc();
-    let plus = Piece::Sign(Sign::Plus);
-    let star = Piece::Sign(Sign::Star);
-    let caret = Piece::Sign(Sign::Caret);
-    let slash = Piece::Sign(Sign::Slash);
-    let sin = Piece::Word(Keyword::Sin);
-    let pi = Piece::Word(Keyword::Pi);
-    let tables: [(&[Piece], &[u8]); 8] = [
-        (&[A, MINUS, B, plus, ONE], b"+-abi"),
-        (&[A, slash, B, star, ONE], b"*/abi"),
-        (&[A, caret, B, caret, ONE], b"^a^bi"),
-        (&[MINUS, A, caret, B, star, ONE], b"*~^abi"),
-        (&[A, plus, MINUS, B, star, ONE], b"+a*~bi"),
-        (&[A, caret, MINUS, B, plus, pi], b"+^a~bp"),
-        (&[OPEN, A, plus, B, CLOSE, star, ONE], b"*+abi"),
-        (&[sin, OPEN, A, CLOSE, caret, B], b"^sinab"),
-    ];
-    for (exp, wanted) in tables {
-        let Ok(text) = shape(alloc, exp) else {
-            panic!(rt; "read");
-        };
-        assert_eq!(rt; text.as_slice(), wanted);
-    }
-    assert!(rt;
-        matches!(
-            shape(alloc, &[A, plus]),
-            Err(QasmFault::Statement { at: 3 })
-        )
-    );
-    assert!(rt;
-        matches!(
-            shape(alloc, &[OPEN, A]),
-            Err(QasmFault::Statement { at: 3 })
-        )
-    );
-    assert!(rt;
-        matches!(
-            shape(alloc, &[A, CLOSE]),
-            Err(QasmFault::Statement { at: 3 })
-        )
-    );
-    Ok(())
-}
-
-/// So many minus signs, and a name.
-fn negations(alloc: Global, count: u32) -> Result<Vec<Piece>, NoMemory> {
-    let mut pieces = Vec::new(alloc);
     for _ in 0..count {
         pieces.push(MINUS)?;
     }
     pieces.push(B)?;
+    pieces.push(CLOSE)?;
+    pieces.push(A)?;
     Ok(pieces)
 }
 
+/// A large expression comes before a place where no statement begins, and only one of a whole statement.
 #[test]
 fn large(rt: HostRuntime) -> Result<(), Fail> {
     let alloc = rt.alloc();
-    let (Ok(most), Ok(more)) = (negations(alloc, 999), negations(alloc, 1000)) else {
-        panic!(rt; "memory");
-    };
-    assert!(rt; shape(alloc, &most).is_ok_and(|text| text.len() == 1000));
-    assert!(rt; matches!(shape(alloc, &more), Err(QasmFault::Large { at: 5 })));
-    // a large expression comes before a place where no statement begins, and only one of a whole statement
-    let mut pieces = Vec::new(alloc);
-    assert!(rt;
-        pieces
-            .extend_from_slice(&[Piece::Word(Keyword::U), OPEN])
-            .is_ok()
-    );
-    assert!(rt; pieces.extend_from_slice(&more).is_ok());
-    assert!(rt; pieces.extend_from_slice(&[CLOSE, A]).is_ok());
+    let mut pieces = negations(alloc, 1000)?;
     assert!(rt; matches!(read(alloc, &pieces), Err(QasmFault::Statement { at: 3 })));
     assert!(rt; pieces.extend_from_slice(&[SEMICOLON, ARROW]).is_ok());
     assert!(rt; matches!(read(alloc, &pieces), Err(QasmFault::Large { at: 5 })));

@@ -1,7 +1,7 @@
 -- The declared placement and the trap of one zone are accepted.
-use Rattle.std.proofs.Common.{◌≡◌, ◌≢◌, ℕ, zero, suc, ◌+◌, ◌-◌, ◌<◌, ◌≤◌, List, [], ◌∷◌, ◌++◌, length, Some, None, Result, Ok, Err, Bool, true, false, refl, sym, ap, ◌∙◌, arith, subst, inl, inr}
-use Rattle.std.specs.Prelude.{◌==◌, not, find, nat_le}
-use Rattle.std.specs.List.{range_with_len, list_any}
+use Rattle.std.proofs.Common.{◌≡◌, ◌≢◌, ℕ, zero, suc, ◌+◌, ◌<◌, ◌≤◌, List, [], ◌∷◌, ◌++◌, length, None, Ok, Err, Bool, true, false, refl, sym, arith, inl, inr}
+use Rattle.std.specs.Prelude.{not, find}
+use Rattle.std.specs.List.{range_with_len}
 use Rattle.std.proofs.lemmas.Bool.{eq-eqb, ne_eqb, le-leb, cases_eq}
 use Rattle.std.proofs.lemmas.List.{append-nil}
 use Rattle.std.proofs.lemmas.List.FromFn.{length-map-range_with_len, map-range_with_len_more}
@@ -13,9 +13,9 @@ use Rattle.trap_model.specs.Trap.{Lists, limit_of}
 use Rattle.trap_model.specs.Build as building
 use Rattle.step_rules.specs.declared.placement.GivenFault.{GivenFault}
 use Rattle.step_rules.specs.declared.placement.GivenFault.TheVariants as given_faults
-use Rattle.step_rules.specs.Placement.{reading_order, stands, first_repeated, zone_fault, zones_fault, missing_fault, placement_of, Gives}
+use Rattle.step_rules.specs.Placement.{reading_order, stands, first_repeated, zone_fault, missing_fault, placement_of, Gives}
 use Rattle.qccd.specs.Filling.{qubit_of, declared_qubits, room}
-use Rattle.qccd.specs.Forms.{IsFullZone, full_zone, one_zone}
+use Rattle.qccd.specs.Forms.{IsFullZone, one_zone}
 use Rattle.qccd.proofs.Declared.{row, zones_of, fits_one}
 
 -- ---- no qubit of a row stands twice, and none is missing

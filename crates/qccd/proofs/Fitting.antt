@@ -1,14 +1,15 @@
 -- Operations in front of others, and that they fit the register.
-use Rattle.std.proofs.Common.{◌≡◌, ◌≢◌, eqb, true, false, Bool, ℕ, ◌<◌, List, [], ◌∷◌, ◌++◌, length, Option, Some, None, refl, sym, ap, subst, ◌∙◌, arith, append_assoc}
-use Rattle.std.specs.Prelude.{All, nat_lt, nat_le, ◌≤◌, ◌&&◌, if◌then◌else◌}
+use Rattle.std.proofs.Common.{◌≡◌, ◌≢◌, eqb, true, false, Bool, ℕ, zero, suc, ◌+◌, ◌<◌, List, [], ◌∷◌, ◌++◌, length, Option, Some, None, refl, sym, ap, subst, ◌∙◌, arith, append_assoc}
+use Rattle.std.specs.Prelude.{All, IsTrue, nat_lt, nat_le, slice_get, ◌≤◌, ◌&&◌, if◌then◌else◌}
 use Rattle.std.specs.Str.{bytes_eq}
-use Rattle.std.proofs.lemmas.Bool.{eqb-false, ltb-true, leb-true}
+use Rattle.std.proofs.lemmas.Bool.{eqb-false, ltb-true, leb-true, and_parts}
 use Rattle.std.proofs.lemmas.Option.{same_Some, none-some}
 use Rattle.std.proofs.lemmas.List.Elements.{All-nil, All-cons}
 use Rattle.qc_base.specs.declared.ids.Qubit.{Qubit}
 use Rattle.circuit_core.specs.declared.op.Op.{Op}
 use Rattle.circuit_core.specs.declared.op.Op.TheVariants.{Cx}
-use Rattle.circuit_core.specs.Circuit.{IsOpOn}
+use Rattle.circuit_core.specs.declared.circuit.Reg.{Reg}
+use Rattle.circuit_core.specs.Circuit.{Parts, IsCircuit, IsRegister, HaveNamesOfTheirOwn, IsOpOn}
 use Rattle.circuit_core.specs.Identifier.{is_identifier}
 use Rattle.qasm_read.specs.declared.arg.Arg.{Arg}
 use Rattle.qasm_read.specs.declared.qop.Qop.{Qop}
@@ -16,7 +17,7 @@ use Rattle.qasm_read.specs.declared.qop.Qop.TheVariants as operations
 use Rattle.qasm_read.specs.declared.statement.Statement.{Statement}
 use Rattle.qasm_read.specs.declared.statement.Statement.TheVariants as statements
 use Rattle.qasm_read.specs.declared.statement.Placed.{Placed}
-use Rattle.qccd.specs.Flat.{◌>>=◌, index_of, cx_on, cx_of, op_of, ops_of, is_within}
+use Rattle.qccd.specs.Flat.{◌>>=◌, index_of, cx_on, cx_of, op_of, ops_of, is_within, register_circuit, circuit_on, circuit_from, flat}
 
 -- these operations, and others behind them
 abbrev pub behind : List Op → Option (List Op) → Option (List Op)
@@ -49,6 +50,10 @@ passed false x y e = absurd (none-some y e)
 failed : {A : Type 0} (b : Bool) (x y : A) → (if b then None else Some x) ≡ Some y → (b ≡ false) × (x ≡ y)
 failed false x y e = (refl, same_Some x y e)
 failed true x y e = absurd (none-some y e)
+
+passed_test : {A : Type 0} (b : Bool) (o : Option A) (y : A) → (if b then o else None) ≡ Some y → (b ≡ true) × (o ≡ Some y)
+passed_test true o y e = (refl, e)
+passed_test false o y e = absurd (none-some y e)
 
 both : (a b : Bool) → (a && b) ≡ true → b ≡ true
 both true b e = e
@@ -117,3 +122,59 @@ ops_fit name size (p ∷ rest) ops e =
       as_many = omega (arith, more.as_many);
       fit = All-cons (IsOpOn size) a.x b.x (op_fits name size p.statement a.x a.is) more.fit;
     })
+
+-- ---- the circuit of a program is one
+
+-- what a register of that name and size is within
+record Within (name : List ℕ) (size statements : ℕ) : Type 0 where
+  word : IsTrue (is_identifier name)
+  some : 1 ≤ size
+  few : size ≤ 128
+  short : statements ≤ 10000
+
+all_within : (name : List ℕ) (size : ℕ) (placed : List Placed) → is_within name size placed ≡ true → Within name size (length placed)
+all_within name size placed e =
+    let three = and_parts (is_identifier name && nat_le 1 size && nat_le size 128) (nat_le (length placed) 10000) e in
+    let two = and_parts (is_identifier name && nat_le 1 size) (nat_le size 128) three.0 in
+    let one = and_parts (is_identifier name) (nat_le 1 size) two.0 in
+    record { word = one.0; some = leb-true 1 size one.1; few = leb-true size 128 two.1; short = leb-true (length placed) 10000 three.1 }
+
+only_one : (reg first : Reg) (i : ℕ) → slice_get (reg ∷ []) i ≡ Some first → i ≡ 0
+only_one reg first zero e = refl
+only_one reg first (suc i) e = absurd (none-some first e)
+
+own_names : (reg : Reg) → HaveNamesOfTheirOwn (reg ∷ [])
+own_names reg i j first second e f same = only_one reg first i e ∙ sym (only_one reg second j f)
+
+one_register : (name : List ℕ) (size count : ℕ) (ops : List Op) → Within name size count → Fit size count ops → IsCircuit (register_circuit name size ops)
+one_register name size count ops is fit =
+    let reg : Reg = record { name = name; size = size } in
+    let all : size ≡ size + 0 = omega arith in
+    record {
+      registers = All-cons IsRegister reg [] (record { some = is.some; name = is.word }) (All-nil IsRegister);
+      names = own_names reg;
+      qubits = omega (arith, is.few);
+      bits = omega arith;
+      few = omega (arith, fit.as_many, is.short);
+      ops = subst (λ (n : ℕ). All (IsOpOn n) ops) all fit.fit;
+    }
+
+on_register : (name : List ℕ) (size : ℕ) (placed : List Placed) (circuit : Parts) → circuit_on name size placed ≡ Some circuit → IsCircuit circuit
+on_register name size placed circuit e =
+    let inside = passed_test (is_within name size placed) (ops_of name size placed >>= (λ ops. Some (register_circuit name size ops))) circuit e in
+    let ops = made (ops_of name size placed) (λ ops. Some (register_circuit name size ops)) circuit inside.1 in
+    subst IsCircuit (same_Some (register_circuit name size ops.x) circuit ops.made) (one_register name size (length placed) ops.x (all_within name size placed inside.0) (ops_fit name size placed ops.x ops.is))
+
+from_register : (statement : Statement) (rest : List Placed) (circuit : Parts) → circuit_from statement rest ≡ Some circuit → IsCircuit circuit
+from_register (statements.Register true name size) rest circuit e = on_register name size rest circuit e
+from_register (statements.Register false name size) rest circuit e = absurd (none-some circuit e)
+from_register (statements.Apply q) rest circuit e = absurd (none-some circuit e)
+from_register (statements.Include text) rest circuit e = absurd (none-some circuit e)
+from_register (statements.Gate gate params qubits body) rest circuit e = absurd (none-some circuit e)
+from_register (statements.Opaque gate params qubits) rest circuit e = absurd (none-some circuit e)
+from_register (statements.Barrier args) rest circuit e = absurd (none-some circuit e)
+from_register (statements.If creg value q) rest circuit e = absurd (none-some circuit e)
+
+pub flat_is_circuit : (program : List Placed) (circuit : Parts) → flat program ≡ Some circuit → IsCircuit circuit
+flat_is_circuit [] circuit e = absurd (none-some circuit e)
+flat_is_circuit (first ∷ rest) circuit e = from_register first.statement rest circuit e

@@ -1,5 +1,5 @@
 -- A schedule's file is judged in one way.
-use Rattle.std.proofs.Common.{◌≡◌, ◌≢◌, ℕ, ◌+◌, ◌≤◌, ◌<◌, List, Option, Some, None, Result, Ok, Err, refl, sym, ap, ◌∙◌, subst, inl, inr, ◌⊎◌, arith, [], ◌∷◌, ◌++◌, length, length-append}
+use Rattle.std.proofs.Common.{◌≡◌, ℕ, ◌+◌, ◌≤◌, ◌<◌, List, Option, Some, None, Ok, Err, refl, sym, ap, ◌∙◌, subst, inl, inr, ◌⊎◌, arith, [], ◌∷◌, ◌++◌, length, length-append}
 use Rattle.std.proofs.lemmas.Bool.{cases_lt}
 use Rattle.qc_base.specs.Shelf.{Contents}
 use Rattle.qc_base.specs.declared.ids.Qubit.{Qubit}
@@ -18,11 +18,11 @@ use Rattle.schedule_play.specs.Faults.{IsFault, Explains as ExplainsPlay}
 use Rattle.schedule_play.proofs.Verdicts.{one_verdict, not_both}
 use Rattle.schedule_text.specs.declared.text_fault.TextFault.{TextFault}
 use Rattle.schedule_text.specs.declared.text_fault.TextFault.TheVariants as texts
-use Rattle.schedule_text.specs.Reading.{Spells, Refuses, IsBadLine, BeginsText, IsText, first_lines, whole_lines}
+use Rattle.schedule_text.specs.Reading.{Spells, Refuses, IsBadLine}
 use Rattle.qccd.specs.declared.answer.Answer.{Answer}
 use Rattle.qccd.specs.declared.answer.Answer.TheVariants as answers
-use Rattle.qccd.specs.Work.{Planned, Work, make, judged}
-use Rattle.qccd.specs.Prepare.{TextOf, VerdictOf, JudgedText, JudgedOf, WorkOf, no_text, illegal_of}
+use Rattle.qccd.specs.Work.{Planned, judged}
+use Rattle.qccd.specs.Prepare.{TextOf, VerdictOf, JudgedText, WorkOf, no_text, illegal_of}
 use Rattle.qccd.specs.Compile.{legal_line, IsDoneBy}
 use Rattle.qccd.proofs.Stages.{IsOne, then-one}
 

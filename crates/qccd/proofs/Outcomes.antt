@@ -1,5 +1,5 @@
 -- What a run comes to, and why it answers as it does.
-use Rattle.std.proofs.Common.{◌≡◌, ℕ, List, Option, Some, None, Result, Ok, Err, refl, sym, ap, ◌∙◌, subst, inl, inr, ◌⊎◌}
+use Rattle.std.proofs.Common.{◌≡◌, ℕ, List, Some, None, Result, Ok, Err, refl, sym, ap, ◌∙◌, subst, inl, inr, ◌⊎◌}
 use Rattle.std.specs.Prelude.{Bool, true, false, IsTrue, nat_le, ◌≤◌, ◌↔◌, if◌then◌else◌}
 use Rattle.std.proofs.lemmas.Bool.{iff_false, leb-true, le-leb}
 use Rattle.qc_base.specs.Causes.{Rose}
@@ -14,8 +14,8 @@ use Rattle.qccd.specs.declared.answer.Answer.{Answer}
 use Rattle.qccd.specs.declared.answer.Answer.TheVariants as answers
 use Rattle.qccd.specs.Wanted.{Files, files_of}
 use Rattle.qccd.specs.Forms.{IsZoneText}
-use Rattle.qccd.specs.Stages.{Then, Is}
-use Rattle.qccd.specs.Work.{Work, make, judged}
+use Rattle.qccd.specs.Stages.{Is}
+use Rattle.qccd.specs.Work.{Work, make}
 use Rattle.qccd.specs.Prepare.{Found, all_of, all_but, Prepares, CircuitOf, TrapOf, JudgedOf, WorkOf, placed}
 use Rattle.qccd.specs.Compile.{IsDoneBy, IsDone}
 use Rattle.qccd.specs.Run.{Explains, StopsAt, FailsToRead, answer_to}

@@ -1,5 +1,4 @@
 -- A request as its words.
-use Rattle.std.specs.Prelude.{ℕ, List, Option, Some, None}
 use Rattle.std.specs.Option.{option_map}
 use Rattle.qccd.specs.declared.request.Exact.{Exact}
 use Rattle.qccd.specs.declared.request.Request.{Request}

@@ -1,5 +1,5 @@
 -- What is to be written once words and files are understood.
-use Rattle.std.specs.Prelude.{ℕ, List}
+use Rattle.std.specs.Prelude.{List}
 use Rattle.qc_base.specs.declared.ids.Qubit.{Qubit}
 use Rattle.step_rules.specs.declared.action.Action.{Action}
 use Rattle.step_rules.specs.Setting.{Setting}

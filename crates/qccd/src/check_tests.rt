@@ -2,7 +2,10 @@
 
 use crate::answer::{Answer, File};
 use crate::command::run;
-use crate::tests::{ROOM_FOR_TWO, TWO, TWO_TEXT, shelf, words};
+use crate::tests::{
+    FOUR, ONE, ROOM_FOR_FOUR, ROOM_FOR_ONE, ROOM_FOR_TWO, TWO, TWO_TEXT, compile_words, shelf,
+    words,
+};
 use qc_base::{MemSink, OpId};
 use schedule_play::PlayFault;
 use std::alloc::Global;
@@ -38,6 +41,45 @@ fn judges(
 fn a_compiled_schedule_is_legal(rt: HostRuntime) -> Result<(), Fail> {
     let line = b"legal steps 1 actions 1 operations 1\n";
     judges(&rt, rt.alloc(), TWO, TWO_TEXT, Answer::Ok, line, b"")
+}
+
+/// Whether a check of what is compiled from these files says this.
+fn judges_compiled(
+    rt: &impl Abort,
+    alloc: Global,
+    circuit: &[u8],
+    trap: &[u8],
+    line: &[u8],
+) -> Result<(), Fail> {
+    let mut shelf = shelf(alloc, circuit, trap, Vec::new(alloc))?;
+    let mut text = MemSink::new(alloc, 100, 1000, Vec::new(alloc))?;
+    let mut out = MemSink::new(alloc, 100, 100, Vec::new(alloc))?;
+    let mut err = MemSink::new(alloc, 100, 100, Vec::new(alloc))?;
+    let compile = compile_words(alloc)?;
+    assert!(rt; run(alloc, &compile, &mut shelf, &mut text, &mut err) == Answer::Ok);
+    shelf.add("s.txt", text.bytes())?;
+    let check = words(alloc, &["check", "c.qasm", "t.toml", "s.txt"])?;
+    assert!(rt; run(alloc, &check, &mut shelf, &mut out, &mut err) == Answer::Ok);
+    assert!(rt; out.bytes() == line);
+    assert!(rt; err.bytes().is_empty());
+    Ok(())
+}
+
+#[test]
+fn compiled_schedules_are_legal(rt: HostRuntime) -> Result<(), Fail> {
+    let table: [(&[u8], &[u8], &[u8]); 3] = [
+        (ONE, ROOM_FOR_ONE, b"legal steps 0 actions 0 operations 0\n"),
+        (TWO, ROOM_FOR_TWO, b"legal steps 1 actions 1 operations 1\n"),
+        (
+            FOUR,
+            ROOM_FOR_FOUR,
+            b"legal steps 2 actions 2 operations 2\n",
+        ),
+    ];
+    for (circuit, trap, line) in table {
+        judges_compiled(&rt, rt.alloc(), circuit, trap, line)?;
+    }
+    Ok(())
 }
 
 /// The text of the pair with another body.

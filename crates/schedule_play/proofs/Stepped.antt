@@ -41,7 +41,7 @@ explained_step setting past step i n faults.NoMemory same h well offends = tt
 
 -- ---- one more action
 
-step_well_pushed : (setting : Setting) (past : List (List Action)) (step : List Action) (action : Action) → StepIsWell setting past step → IsWell setting (behind past step) action → StepIsWell setting past (step ++ action ∷ [])
+pub step_well_pushed : (setting : Setting) (past : List (List Action)) (step : List Action) (action : Action) → StepIsWell setting past step → IsWell setting (behind past step) action → StepIsWell setting past (step ++ action ∷ [])
 step_well_pushed setting past step action well is place other at = elim (slice_pushed step action other place at) [
   | inl there ↦ (let front : take place (step ++ action ∷ []) ≡ take place step = take-append-le place step (action ∷ []) (omega (arith, there.0)) in
       subst (λ (l : List Action). IsWell setting (behind past l) other) (sym front) (well place other there.1))

@@ -1,3 +1,4 @@
 pub mod Faults
 pub mod Nearest
 pub mod Progress
+pub mod Plain

@@ -6,6 +6,8 @@ mod laws;
 mod nearest;
 mod progress;
 mod simulator;
+#[cfg(test)]
+mod tests;
 
 pub use fault::PlayFault;
 pub use laws::one_verdict;

@@ -1,8 +1,8 @@
 //! Which operations were performed.
 
-ghost use Rattle.std.specs.Prelude.{◌≡◌, ℕ, ◌<◌, ◌≤◌, length, not, Bool, true, false, IsTrue, ◌↔◌, slice_index_or, IfOk, IfSome, MatchOption, [], ◌∷◌};
+ghost use Rattle.std.specs.Prelude.{◌≡◌, ℕ, ◌<◌, length, not, true, false, IsTrue, ◌↔◌, slice_index_or, IfOk, IfSome, MatchOption, [], ◌∷◌};
 ghost use Rattle.step_rules.specs.Tests.{is_performed as performed_in};
-ghost use Rattle.schedule_play.specs.Nearest.{AreNearest, IsAmong};
+ghost use Rattle.schedule_play.specs.Nearest.{AreNearest};
 ghost use Rattle.schedule_play.specs.Progress.{AreFlags, marked, IsOwed, IsOwedFirst, IsClosed, IsUndone, IsMissing};
 
 use crate::nearest::{Nearest, nearest_of_each};

@@ -22,10 +22,10 @@ use trap_model::Trap;
 
 /// What is played: on which trap, which circuit, and from where.
 #[derive(Drop)]
-struct Scene<'a> {
-    trap: &'a Trap,
-    circuit: &'a Circuit,
-    placement: &'a Placement,
+pub(crate) struct Scene<'a> {
+    pub trap: &'a Trap,
+    pub circuit: &'a Circuit,
+    pub placement: &'a Placement,
 }
 
 // The first of these footprints that meets that one.

@@ -1,4 +1,3 @@
-use Rattle.std.proofs.Common.{◌≡◌, ◌∙◌, sym, Ok}
 use Rattle.qccd.specs.Forms.{one_zone}
 use Rattle.qccd.proofs.Accepted.{built, built_unless}
 use Rattle.qccd.proofs.forms.trap_of.Goals as goal

@@ -1,0 +1,87 @@
+-- What holds of a statement that a text spells, beside its grammar: its names are identifiers, its reals are reals, and its expressions are small.
+use Rattle.std.specs.Prelude.{ℕ, ◌<◌, ◌≤◌, List, [], ◌∷◌, ◌++◌, length, All, IsTrue}
+use Rattle.circuit_core.specs.Identifier.{is_identifier}
+use Rattle.qasm_read.specs.declared.arg.Arg.{Arg}
+use Rattle.qasm_read.specs.declared.body_item.BodyItem.{BodyItem}
+use Rattle.qasm_read.specs.declared.body_item.BodyItem.TheVariants as item
+use Rattle.qasm_read.specs.declared.exp.Exp.{Exp, fold-Exp}
+use Rattle.qasm_read.specs.declared.exp.Exp.TheOpen.{Exp-F}
+use Rattle.qasm_read.specs.declared.qop.Qop.{Qop}
+use Rattle.qasm_read.specs.declared.qop.Qop.TheVariants as operation
+use Rattle.qasm_read.specs.declared.statement.Placed.{Placed}
+use Rattle.qasm_read.specs.declared.statement.Statement.{Statement}
+use Rattle.qasm_read.specs.declared.statement.Statement.TheVariants as statement
+use Rattle.qasm_tokens.specs.TokenForms.{IsReal}
+use Rattle.qasm_read.specs.Grammar.{nodes_of}
+
+-- a name that a register, a gate or a formal may have
+abbrev pub IsName : List ℕ → Type 0
+IsName name = IsTrue (is_identifier name)
+
+-- a real of at most 64 bytes
+abbrev pub IsShortReal : List ℕ → Type 0
+IsShortReal text = IsReal text × (length text ≤ 64)
+
+abbrev pub names_step : Exp-F (List (List ℕ)) → List (List ℕ)
+names_step (Exp-F.Real r) = []
+names_step (Exp-F.Int n) = []
+names_step Exp-F.Pi = []
+names_step (Exp-F.Neg a) = a
+names_step (Exp-F.Bin op a b) = a ++ b
+names_step (Exp-F.Fun f a) = a
+names_step (Exp-F.Id n) = n ∷ []
+
+-- the names in an expression
+abbrev pub names_of : Exp → List (List ℕ)
+names_of = fold-Exp (List (List ℕ)) names_step
+
+abbrev pub reals_step : Exp-F (List (List ℕ)) → List (List ℕ)
+reals_step (Exp-F.Real r) = r ∷ []
+reals_step (Exp-F.Int n) = []
+reals_step Exp-F.Pi = []
+reals_step (Exp-F.Neg a) = a
+reals_step (Exp-F.Bin op a b) = a ++ b
+reals_step (Exp-F.Fun f a) = a
+reals_step (Exp-F.Id n) = []
+
+-- the reals in an expression
+abbrev pub reals_of : Exp → List (List ℕ)
+reals_of = fold-Exp (List (List ℕ)) reals_step
+
+pub record IsExpression (e : Exp) : Type 0 where
+  pub names : All IsName (names_of e)
+  pub reals : All IsShortReal (reals_of e)
+  pub small : nodes_of e ≤ 1000
+
+abbrev pub IsArgument : Arg → Type 0
+IsArgument a = IsName a.name
+
+-- there is one at least, and each is so
+abbrev pub AtLeastOne : {X : Type 0} → (X → Type 0) → List X → Type 0
+AtLeastOne P xs = (0 < length xs) × All P xs
+
+abbrev pub IsBodyItem : BodyItem → Type 0
+IsBodyItem (item.U params arg) = AtLeastOne IsExpression params × IsName arg
+IsBodyItem (item.Cx control target) = IsName control × IsName target
+IsBodyItem (item.Call gate params args) = IsName gate × All IsExpression params × AtLeastOne IsName args
+IsBodyItem (item.Barrier args) = AtLeastOne IsName args
+
+abbrev pub IsOperation : Qop → Type 0
+IsOperation (operation.U params arg) = AtLeastOne IsExpression params × IsArgument arg
+IsOperation (operation.Cx control target) = IsArgument control × IsArgument target
+IsOperation (operation.Call gate params args) = IsName gate × All IsExpression params × AtLeastOne IsArgument args
+IsOperation (operation.Measure source target) = IsArgument source × IsArgument target
+IsOperation (operation.Reset arg) = IsArgument arg
+
+abbrev pub IsWellFormed : Statement → Type 0
+IsWellFormed (statement.Include t) = Unit {0}
+IsWellFormed (statement.Register quantum n size) = IsName n
+IsWellFormed (statement.Gate n params qubits body) = IsName n × All IsName params × AtLeastOne IsName qubits × All IsBodyItem body
+IsWellFormed (statement.Opaque n params qubits) = IsName n × All IsName params × AtLeastOne IsName qubits
+IsWellFormed (statement.Apply op) = IsOperation op
+IsWellFormed (statement.Barrier args) = AtLeastOne IsArgument args
+IsWellFormed (statement.If creg value op) = IsName creg × IsOperation op
+
+-- each statement of a program is
+abbrev pub AreWellFormed : List Placed → Type 0
+AreWellFormed program = All (λ p. IsWellFormed p.statement) program
