@@ -1,5 +1,5 @@
 -- What comes next in a text behind the lines of the first zones.
-use Rattle.std.proofs.Common.{◌≡◌, ℕ, zero, suc, ◌^◌, ◌<◌, ◌≤◌, List, [], ◌∷◌, ◌++◌, length, take, drop, Some, refl, sym, ap, subst, ◌∙◌, arith, append_assoc}
+use Rattle.std.proofs.Common.{◌≡◌, ℕ, zero, suc, ◌^◌, ◌<◌, ◌≤◌, ◌+◌, List, [], ◌∷◌, ◌++◌, length, take, drop, Some, refl, sym, ap, subst, ◌∙◌, arith, append_assoc}
 use Rattle.std.specs.Prelude.{All, slice_get, decimal, codes}
 use Rattle.std.proofs.lemmas.Option.{same_Some}
 use Rattle.std.proofs.lemmas.Grind.{flat_map-append}
@@ -9,8 +9,9 @@ use Rattle.qc_base.specs.declared.ids.Qubit.{Qubit}
 use Rattle.qc_base.proofs.Words.{same_rest}
 use Rattle.circuit_core.specs.Circuit.{Parts, IsCircuit, qubit_count}
 use Rattle.trap_model.specs.declared.parts.ZonePart.{ZonePart}
-use Rattle.trap_model.specs.Trap.{Lists}
+use Rattle.trap_model.specs.Trap.{Lists, limit_of}
 use Rattle.trap_model.specs.Build.{IsTrap}
+use Rattle.trap_model.proofs.Slots.{slice_get_right}
 use Rattle.step_rules.specs.declared.action.Action.{Action}
 use Rattle.step_rules.specs.Placement.{IsPlacement, reading_order}
 use Rattle.step_rules.specs.Setting.{Setting, setting_of}
@@ -119,6 +120,14 @@ next_place circuit zone (first ∷ zones) (list ∷ placement) (suc k) e same al
       behind = later.behind;
       lines = later.lines;
     }
+
+-- a list that can stand in the next zone fits there
+pub next_fits : (trap : Lists) (circuit : Parts) (lists : List (List Qubit)) (zone : ZonePart) (list : List Qubit) → slice_get trap.zones (length lists) ≡ Some zone → Opens trap circuit (lists ++ list ∷ [])
+    → length list ≤ zone.capacity
+next_fits trap circuit lists zone list at opened =
+    let zone_is : limit_of trap (length lists) ≡ zone.capacity = rw at refl in
+    let last : length lists + 0 ≡ length lists = omega arith in
+    omega (arith, opened.room (length lists) list (slice_get_right lists (list ∷ []) 0 (length lists) last), zone_is)
 
 -- the reader of the next list doesn't find one that can stand there
 pub list_sticks : (trap : Lists) (circuit : Parts) (lists : List (List Qubit)) (zone : ZonePart) (bytes : List ℕ) → IsTrap trap → IsCircuit circuit → Opens trap circuit lists

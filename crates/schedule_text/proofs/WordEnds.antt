@@ -1,5 +1,5 @@
 -- A word that ends at a sign or at the end is read in one way; so are the labels of a line.
-use Rattle.std.proofs.Common.{◌≡◌, ℕ, ◌<◌, zero, suc, inl, inr, Some, List, [], ◌∷◌, ◌++◌, length, refl, sym, ap, ◌∙◌, arith, append_assoc, append-nil, length-append, subst}
+use Rattle.std.proofs.Common.{◌≡◌, ℕ, ◌<◌, ◌≤◌, zero, suc, inl, inr, Some, List, [], ◌∷◌, ◌++◌, length, refl, sym, ap, ◌∙◌, arith, append_assoc, append-nil, length-append, subst}
 use Rattle.std.specs.Prelude.{All, codes}
 use Rattle.std.proofs.lemmas.List.{get_or_at}
 use Rattle.qc_base.specs.declared.ids.Qubit.{Qubit}
@@ -93,6 +93,10 @@ first_refused circuit list (qubit ∷ more) rest all some refused e =
     let small = all (length list) qubit (omega (arith, length-append list (qubit ∷ more))) in
     refused qubit (labels_text circuit more) (rw here at small) (labels_end circuit more) e
 
+past_all : (circuit : Parts) (list full more : List Qubit) (rest : List ℕ) (capacity : ℕ) → 0 < length rest → capacity ≤ length list → length full ≤ capacity → full ≡ list ++ more → rest ≡ labels_text circuit more → ⊥
+past_all circuit list full [] rest capacity some many few full_is e = omega (arith, some, ap length e)
+past_all circuit list full (qubit ∷ more) rest capacity some many few full_is e = omega (arith, many, few, ap length full_is, length-append list (qubit ∷ more))
+
 -- all labels are read
 pub labels_all : (circuit : Parts) (list full : List Qubit) (rest words : List ℕ) → IsCircuit circuit → All (λ (qubit : Qubit). qubit.0 < qubit_count circuit) list → All (λ (qubit : Qubit). qubit.0 < qubit_count circuit) full
     → (0 < length list → EndsWord 32 rest) → length rest ≡ 0 → words ≡ labels_text circuit list ++ rest → words ≡ labels_text circuit full → list ≡ full
@@ -108,3 +112,11 @@ pub labels_none : (circuit : Parts) (list full : List Qubit) (rest words : List 
 labels_none circuit list full rest words c all also ends some refused parts e =
     let more = labels_go_on circuit list full rest c all also ends (sym parts ∙ e) in
     first_refused circuit list more.0 rest (subst (λ (qubits : List Qubit). All (λ (qubit : Qubit). qubit.0 < qubit_count circuit) qubits) more.1 also) some refused more.2
+
+-- more labels than fit are read before the end
+pub labels_past : (circuit : Parts) (list full : List Qubit) (rest words : List ℕ) (capacity : ℕ) → IsCircuit circuit → All (λ (qubit : Qubit). qubit.0 < qubit_count circuit) list
+    → All (λ (qubit : Qubit). qubit.0 < qubit_count circuit) full → (0 < length list → EndsWord 32 rest) → 0 < length rest → capacity ≤ length list → length full ≤ capacity
+    → words ≡ labels_text circuit list ++ rest → words ≡ labels_text circuit full → ⊥
+labels_past circuit list full rest words capacity c all also ends some many few parts e =
+    let more = labels_go_on circuit list full rest c all also ends (sym parts ∙ e) in
+    past_all circuit list full more.0 rest capacity some many few more.1 more.2

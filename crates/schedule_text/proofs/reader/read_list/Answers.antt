@@ -2,13 +2,13 @@ use Rattle.std.proofs.Common.{◌≡◌, List, [], ◌∷◌, ◌++◌, ap, sym,
 use Rattle.std.proofs.lemmas.Bool.{false≢true}
 use Rattle.qc_base.specs.declared.ids.Qubit.{Qubit}
 use Rattle.schedule_text.specs.Progress.{Opens, head_text}
-use Rattle.schedule_text.proofs.Follows.{list_sticks, order_more, head_more}
+use Rattle.schedule_text.proofs.Follows.{list_sticks, next_fits, order_more, head_more}
 use Rattle.schedule_text.proofs.reader.read_list.Goals as goal
 
 pub returns-in_default-clause-grown : goal.returns-in_default-clause-grown
 returns-in_default-clause-grown c =
     list_sticks c.args.trap.now c.args.circuit.now c.args.lists.now.items c.args.zone.now c.args.bytes.now c.requires.trap c.requires.circuit c.requires.opened c.requires.next c.requires.within
-    (λ list rest there e opened. absurd (rw c.in_default.is at (c.in_ok-list.ensures.only list rest there e)))
+    (λ list rest there e opened. absurd (rw c.in_default.is at (c.in_ok-list.ensures.only list rest (next_fits c.args.trap.now c.args.circuit.now c.args.lists.now.items c.args.zone.now list c.requires.next opened) there e)))
 
 pub is_open-requires-clause-qubits : goal.is_open-requires-clause-qubits
 is_open-requires-clause-qubits c =
@@ -25,7 +25,8 @@ pub returns-else-branch-clause-grown : goal.returns-else-branch-clause-grown
 returns-else-branch-clause-grown c =
     list_sticks c.args.trap.now c.args.circuit.now c.args.lists.now.items c.args.zone.now c.args.bytes.now c.requires.trap c.requires.circuit c.requires.opened c.requires.next c.requires.within
     (λ list rest there e opened.
-    let read = rw c.in-Some.is at (c.in_ok-list.ensures.only list rest there e) in
+    let fits = next_fits c.args.trap.now c.args.circuit.now c.args.lists.now.items c.args.zone.now list c.requires.next opened in
+    let read = rw c.in-Some.is at (c.in_ok-list.ensures.only list rest fits there e) in
     let lists : c.deref.result.now ≡ c.args.lists.now.items ++ list ∷ [] =
     c.deref.ensures.value ∙ c.in_ok-push.ensures.items ∙ ap (λ (l : List Qubit). c.args.lists.now.items ++ l ∷ []) read.0 in
     let opens = c.in_ok-is_open.ensures.1 (subst (Opens c.args.trap.now c.args.circuit.now) (sym lists) opened) in

@@ -1,0 +1,393 @@
+//! A text with every kind of line, and the first bad lines of others.
+
+ghost use Rattle.std.specs.Prelude.{◌≤◌, ◌<◌, IsTrue, All, IfOk};
+ghost use Rattle.trap_model.specs.Names.{is_name};
+ghost use Rattle.trap_model.specs.Build.{AreNames};
+
+use crate::{TextFault, print, read};
+use circuit_core::{Circuit, Op, Reg};
+use qc_base::{End, JunctionId, Name, NoMemory, OpId, PlaceId, Qubit};
+use std::alloc::Global;
+use std::process::Abort;
+use std::test::Fail;
+use step_rules::{Action, GivenFault, Placement, Qubits, Schedule};
+use trap_model::{EndName, JoinPart, SegmentPart, Trap, TrapParts, ZonePart};
+
+fn zone(alloc: Global, name: &[u8]) -> Result<ZonePart, NoMemory>
+    requires { IsTrue (is_name name.now) }
+    ensures { IfOk result (λ zone. IsTrue (is_name zone.name)) }
+{
+    Ok(ZonePart {
+        name: Name::from_bytes(alloc, name)?,
+        capacity: 4,
+        one: false,
+        two: true,
+        read: false,
+    })
+}
+
+fn zones(alloc: Global) -> Result<Vec<ZonePart>, NoMemory>
+    ensures { IfOk result (λ zones. All (λ zone. IsTrue (is_name zone.name)) zones.items) }
+{
+    let mut zones = Vec::new(alloc);
+    zones.push(zone(alloc, b"A")?)?;
+    zones.push(zone(alloc, b"B")?)?;
+    Ok(zones)
+}
+
+fn segment(alloc: Global, name: &[u8]) -> Result<SegmentPart, NoMemory>
+    requires { IsTrue (is_name name.now) }
+    ensures { IfOk result (λ segment. IsTrue (is_name segment.name)) }
+{
+    Ok(SegmentPart {
+        name: Name::from_bytes(alloc, name)?,
+        slots: 2,
+        load: 2,
+    })
+}
+
+fn segments(alloc: Global) -> Result<Vec<SegmentPart>, NoMemory>
+    ensures { IfOk result (λ segments. All (λ segment. IsTrue (is_name segment.name)) segments.items) }
+{
+    let mut segments = Vec::new(alloc);
+    segments.push(segment(alloc, b"s")?)?;
+    segments.push(segment(alloc, b"t")?)?;
+    Ok(segments)
+}
+
+fn junctions(alloc: Global) -> Result<Vec<Name>, NoMemory>
+    ensures { IfOk result (λ junctions. AreNames junctions.items) }
+{
+    let mut junctions = Vec::new(alloc);
+    junctions.push(Name::from_bytes(alloc, b"J")?)?;
+    Ok(junctions)
+}
+
+fn end_name(alloc: Global, name: &[u8], end: Option<End>) -> Result<EndName, NoMemory> {
+    Ok(EndName {
+        name: Name::from_bytes(alloc, name)?,
+        end,
+    })
+}
+
+fn join(
+    alloc: Global,
+    first: (&[u8], End),
+    second: (&[u8], Option<End>),
+) -> Result<JoinPart, NoMemory> {
+    Ok(JoinPart {
+        first: end_name(alloc, first.0, Some(first.1))?,
+        second: end_name(alloc, second.0, second.1)?,
+    })
+}
+
+/// Zone A by segment s to junction J, and from there by segment t to zone B. The slots are s.0, s.1, t.0 and t.1.
+fn trap_of(alloc: Global) -> Result<Trap, Fail> {
+    let mut joins = Vec::new(alloc);
+    joins.push(join(alloc, (b"A", End::B), (b"s", Some(End::A)))?)?;
+    joins.push(join(alloc, (b"s", End::B), (b"J", None))?)?;
+    joins.push(join(alloc, (b"t", End::A), (b"J", None))?)?;
+    joins.push(join(alloc, (b"B", End::A), (b"t", Some(End::B)))?)?;
+    let parts = TrapParts {
+        zones: zones(alloc)?,
+        segments: segments(alloc)?,
+        junctions: junctions(alloc)?,
+        joins,
+    };
+    let trap = Trap::build(alloc, parts)?;
+    Ok(trap)
+}
+
+/// So many qubits, and two operations.
+fn circuit_of(alloc: Global, qubits: u32) -> Result<Circuit, NoMemory>
+    requires some { 3 ≤ qubits }
+    requires few { qubits ≤ 9 }
+{
+    let mut ops = Vec::new(alloc);
+    ops.push(Op::Cx {
+        control: Qubit(0),
+        target: Qubit(1),
+        cond: None,
+    })?;
+    ops.push(Op::Cx {
+        control: Qubit(2),
+        target: Qubit(0),
+        cond: None,
+    })?;
+    let name = Name::from_bytes(alloc, b"q")?;
+    let mut qregs = Vec::new(alloc);
+    qregs.push(Reg { name, size: qubits })?;
+    Ok(Circuit::new(qregs, Vec::new(alloc), ops))
+}
+
+fn are_below(qubits: &[Qubit], count: u32) -> bool
+    ensures { IsTrue result → All (λ qubit. qubit.0 < count) qubits.now }
+{
+    qubits.iter().all(|qubit| qubit.0 < count)
+}
+
+/// A placement of two lists.
+fn place(
+    rt: &impl Abort,
+    alloc: Global,
+    trap: &Trap,
+    circuit: &Circuit,
+    zones: (&[Qubit], &[Qubit]),
+) -> Result<Placement, GivenFault> {
+    let first = Qubits::from_vec(Vec::from_slice(alloc, zones.0)?);
+    let second = Qubits::from_vec(Vec::from_slice(alloc, zones.1)?);
+    assert!(rt; trap.zones().len() == 2);
+    let count = circuit.qubits();
+    assert!(rt; are_below(first.items(), count));
+    assert!(rt; are_below(second.items(), count));
+    let mut lists = Vec::new(alloc);
+    lists.push(first)?;
+    lists.push(second)?;
+    Placement::new(alloc, trap, circuit, lists)
+}
+
+fn is_placed(placement: &Placement, zones: (&[Qubit], &[Qubit])) -> bool {
+    match placement.lists() {
+        [first, second] => first.items() == zones.0 && second.items() == zones.1,
+        _ => false,
+    }
+}
+
+fn push_all(rt: &impl Abort, schedule: &mut Schedule, actions: &[Action]) -> Result<(), NoMemory> {
+    for action in actions {
+        assert!(rt; !schedule.steps().is_empty());
+        schedule.push_action(*action)?;
+    }
+    Ok(())
+}
+
+fn schedule_of(rt: &impl Abort, alloc: Global, steps: &[&[Action]]) -> Result<Schedule, NoMemory> {
+    let mut schedule = Schedule::new(alloc);
+    for actions in steps {
+        schedule.push_step()?;
+        push_all(rt, &mut schedule, actions)?;
+    }
+    Ok(schedule)
+}
+
+fn has_steps(schedule: &Schedule, steps: &[&[Action]]) -> bool {
+    if schedule.steps().len() != steps.len() {
+        return false;
+    }
+    for (step, actions) in schedule.steps().iter().zip(steps) {
+        if step.actions() != *actions {
+            return false;
+        }
+    }
+    true
+}
+
+/// The ions 0 and 1 in A, and 2 in B.
+const IN_A: [Qubit; 2] = [Qubit(2), Qubit(0)];
+
+const IN_B: [Qubit; 1] = [Qubit(1)];
+
+const FIRST: [Action; 2] = [
+    Action::Split {
+        zone: PlaceId(0),
+        end: End::B,
+        count: 2,
+    },
+    Action::Move {
+        from: PlaceId(2),
+        to: PlaceId(3),
+    },
+];
+
+const SECOND: [Action; 2] = [
+    Action::Cross {
+        junction: JunctionId(0),
+        from: PlaceId(3),
+        to: PlaceId(4),
+    },
+    Action::Merge {
+        zone: PlaceId(1),
+        end: End::A,
+    },
+];
+
+const LAST: [Action; 3] = [
+    Action::Swap {
+        zone: PlaceId(0),
+        index: 0,
+    },
+    Action::Op {
+        zone: PlaceId(0),
+        op: OpId(0),
+    },
+    Action::Op {
+        zone: PlaceId(4),
+        op: OpId(1),
+    },
+];
+
+/// The lines of the text of these.
+const LINES: [&[u8]; 16] = [
+    b"qccd schedule 1\n",
+    b"place A q[2] q[0]\n",
+    b"place B q[1]\n",
+    b"steps 4\n",
+    b"step 1\n",
+    b"split A b 2\n",
+    b"move s.0 s.1\n",
+    b"step 2\n",
+    b"cross J s.1 t.0\n",
+    b"merge B a\n",
+    b"step 3\n",
+    b"step 4\n",
+    b"swap A 0\n",
+    b"op A 0 ions 1 2 : CX q[0],q[1];\n",
+    b"op t.0 1 ions 0 1 : CX q[2],q[0];\n",
+    b"end\n",
+];
+
+/// The text with another line in place of the one with this number, from 1.
+fn text_with(alloc: Global, number: usize, line: &[u8]) -> Result<Vec<u8>, NoMemory> {
+    let mut text = Vec::new(alloc);
+    let mut count = 0usize;
+    for old in LINES {
+        count = count.saturating_add(1);
+        text.extend_from_slice(if count == number { line } else { old })?;
+    }
+    Ok(text)
+}
+
+#[test]
+fn every_kind_of_line_is_printed_and_read(rt: HostRuntime) -> Result<(), Fail> {
+    let alloc = rt.alloc();
+    let trap = trap_of(alloc)?;
+    let circuit = circuit_of(alloc, 3)?;
+    let placement = place(&rt, alloc, &trap, &circuit, (&IN_A, &IN_B))?;
+    let steps: [&[Action]; 4] = [&FIRST, &SECOND, &[], &LAST];
+    let schedule = schedule_of(&rt, alloc, &steps)?;
+    let text = text_with(alloc, 0, b"")?;
+    let printed = print(alloc, &trap, &circuit, &placement, &schedule)?;
+    assert!(rt; printed.as_slice() == text.as_slice());
+    let (placement, schedule) = read(alloc, &trap, &circuit, &text)?;
+    assert!(rt; is_placed(&placement, (&IN_A, &IN_B)));
+    assert!(rt; has_steps(&schedule, &steps));
+    Ok(())
+}
+
+/// Whether the bytes have this first bad line.
+fn is_bad_at(alloc: Global, trap: &Trap, circuit: &Circuit, bytes: &[u8], number: u64) -> bool {
+    read(alloc, trap, circuit, bytes).err() == Some(TextFault::Line { number })
+}
+
+/// A line's number, what stands in its place, and the first bad line then.
+const EDITS: [(usize, &[u8], u64); 44] = [
+    (1, b"qccd schedule 2\n", 1),
+    (1, b"qccd  schedule 1\n", 1),
+    (2, b"place B q[2] q[0]\n", 2),
+    (2, b"place A q[2] q[2]\n", 2),
+    (2, b"place A q[2] q[3]\n", 2),
+    (2, b"place A q[2] r[0]\n", 2),
+    (2, b"place A q[2] q[00]\n", 2),
+    (2, b"place A q[2]  q[0]\n", 2),
+    (2, b"place A q[2]q[0]\n", 2),
+    (2, b"place A q[2] q[0] \n", 2),
+    (3, b"place B q[0]\n", 3),
+    (3, b"place B\n", 3),
+    (3, b"place B q[1]", 3),
+    (4, b"steps 04\n", 4),
+    (4, b"steps 3\n", 12),
+    (4, b"steps 5\n", 16),
+    (5, b"", 5),
+    (5, b"step 2\n", 5),
+    (5, b"step  1\n", 5),
+    (6, b"Split A b 2\n", 6),
+    (6, b"split C b 2\n", 6),
+    (6, b"split A c 2\n", 6),
+    (6, b"split A B 2\n", 6),
+    (6, b"split A b 02\n", 6),
+    (7, b"move s.0 s.2\n", 7),
+    (7, b"move s.0 s.01\n", 7),
+    (8, b"\n", 8),
+    (9, b"cross B s.1 t.0\n", 9),
+    (9, b"cross J s.1\n", 9),
+    (10, b"merge B a\r\n", 10),
+    (10, b"merge B a", 10),
+    (11, b"step 4\n", 11),
+    (13, b"swap A 4294967296\n", 13),
+    (14, b"op A 2 ions 1 2 : CX q[0],q[1];\n", 14),
+    (14, b"op A 0 ions 1 0 : CX q[0],q[1];\n", 14),
+    (14, b"op A 0 ions 1 2 : CX q[0],q[2];\n", 14),
+    (14, b"op A 0 ions 1 2  : CX q[0],q[1];\n", 14),
+    (14, b"op A 0 ions 1 2 : CX q[0], q[1];\n", 14),
+    (15, b"op t.0 0 ions 0 1 : CX q[2],q[0];\n", 15),
+    (16, b"end", 16),
+    (16, b"End\n", 16),
+    (16, b"", 16),
+    (16, b"end\n\n", 17),
+    (16, b"end\nx", 17),
+];
+
+#[test]
+fn texts_with_one_other_line(rt: HostRuntime) -> Result<(), Fail> {
+    let alloc = rt.alloc();
+    let trap = trap_of(alloc)?;
+    let circuit = circuit_of(alloc, 3)?;
+    for (line, with, number) in EDITS {
+        let text = text_with(alloc, line, with)?;
+        assert!(rt;
+            is_bad_at(alloc, &trap, &circuit, &text, number),
+            "{line} {number}"
+        );
+    }
+    Ok(())
+}
+
+#[test]
+fn texts_with_a_byte_less_or_another(rt: HostRuntime) -> Result<(), Fail> {
+    let alloc = rt.alloc();
+    let trap = trap_of(alloc)?;
+    let circuit = circuit_of(alloc, 3)?;
+    let text = text_with(alloc, 0, b"")?;
+    let mut number = 1u64;
+    for (at, byte) in text.iter().enumerate() {
+        let mut less = text.clone()?;
+        less.remove(at);
+        assert!(rt; is_bad_at(alloc, &trap, &circuit, &less, number), "{at}");
+        let mut other = text.clone()?;
+        other[at] = 0;
+        assert!(rt; is_bad_at(alloc, &trap, &circuit, &other, number), "{at}");
+        if *byte == b'\n' {
+            number = number.saturating_add(1);
+        }
+    }
+    Ok(())
+}
+
+#[test]
+fn texts_that_break_off(rt: HostRuntime) -> Result<(), Fail> {
+    let alloc = rt.alloc();
+    let trap = trap_of(alloc)?;
+    let circuit = circuit_of(alloc, 3)?;
+    let largest = b"qccd schedule 1\nplace A q[2] q[0]\nplace B q[1]\nsteps 18446744073709551615\n";
+    let above = b"qccd schedule 1\nplace A q[2] q[0]\nplace B q[1]\nsteps 18446744073709551616\n";
+    assert!(rt; is_bad_at(alloc, &trap, &circuit, largest, 5));
+    assert!(rt; is_bad_at(alloc, &trap, &circuit, above, 4));
+    assert!(rt; is_bad_at(alloc, &trap, &circuit, b"", 1));
+    Ok(())
+}
+
+#[test]
+fn qubits_that_fit_into_the_zones(rt: HostRuntime) -> Result<(), Fail> {
+    let alloc = rt.alloc();
+    let trap = trap_of(alloc)?;
+    let six = circuit_of(alloc, 6)?;
+    let nine = circuit_of(alloc, 9)?;
+    let both = b"qccd schedule 1\nplace A q[0] q[1]\nplace B q[2] q[3] q[4] q[5]\nsteps 0\nend\n";
+    let few = b"qccd schedule 1\nplace A q[0]\nplace B q[1] q[2] q[3] q[4] q[5]\nsteps 0\nend\n";
+    let many = b"qccd schedule 1\nplace A q[0] q[1] q[2] q[3] q[4]\nplace B q[5]\nsteps 0\nend\n";
+    assert!(rt; read(alloc, &trap, &six, both).is_ok());
+    assert!(rt; is_bad_at(alloc, &trap, &six, few, 2));
+    assert!(rt; is_bad_at(alloc, &trap, &six, many, 2));
+    assert!(rt; is_bad_at(alloc, &trap, &nine, both, 1));
+    Ok(())
+}
