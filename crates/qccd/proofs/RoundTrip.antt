@@ -266,23 +266,27 @@ judged_text trap circuit placement steps text content t c spells plays there few
   };
 }
 
-pub judged_legal : (contents : Contents) (words check_words : List (List ℕ)) (circuit trap schedule text : List ℕ) (setting : Setting)
+-- the text is put on the shelf after the compilation, which leaves the circuit and the trap
+pub judged_legal : (before later : Contents) (words check_words : List (List ℕ)) (circuit trap schedule text : List ℕ) (setting : Setting)
     → files_of words ≡ Ok (to_compile circuit trap) → files_of check_words ≡ Ok (to_check circuit trap schedule)
-    → Prepares (all_of contents) words (Ok (make setting)) → IsTextOf setting text
-    → contents schedule ≡ Some text → length text ≤ 2 ^ 30
-    → IsJudgedLegal contents check_words setting text
-judged_legal contents words check_words circuit trap schedule text setting request check_request prepares written there few =
-    let of = made contents words circuit trap setting request prepares in
-    let zone = trap_zone (contents trap) of.trap of.of_trap in
+    → Prepares (all_of before) words (Ok (make setting)) → IsTextOf setting text
+    → later circuit ≡ before circuit → later trap ≡ before trap
+    → later schedule ≡ Some text → length text ≤ 2 ^ 30
+    → IsJudgedLegal later check_words setting text
+judged_legal before later words check_words circuit trap schedule text setting request check_request prepares written same_circuit same_trap there few =
+    let of = made before words circuit trap setting request prepares in
+    let of_circuit = subst (λ (content : Option (List ℕ)). CircuitOf content (Ok of.circuit)) (sym same_circuit) of.of_circuit in
+    let of_trap = subst (λ (content : Option (List ℕ)). TrapOf content (Ok of.trap)) (sym same_trap) of.of_trap in
+    let zone = trap_zone (before trap) of.trap of.of_trap in
     let placement = filled of.trap.zones (declared_qubits of.circuit) in
     let placed = subst (IsPlacement of.trap of.circuit) (sym (filled_one of.trap of.circuit zone of.fits)) (is_placement of.trap of.circuit zone of.fits) in
     let plays = subst (λ (s : Setting). Plays s written.schedule) of.setting_is written.plays in
     let text_is = written.text_is ∙ ap (λ (s : Setting). schedule_text s written.schedule) of.setting_is in
     let spells = spelled of.trap of.circuit placement written.schedule text zone placed plays text_is few in
-    let judges = judged_text of.trap of.circuit placement written.schedule text (contents schedule) (trap_right of.trap zone) (circuit_right (contents circuit) of.circuit of.of_circuit) spells plays there few in
+    let judges = judged_text of.trap of.circuit placement written.schedule text (later schedule) (trap_right of.trap zone) (circuit_right (before circuit) of.circuit of.of_circuit) spells plays there few in
     record {
       steps = written.schedule;
-      judges = subst (λ (s : Setting). Prepares (all_of contents) check_words (Ok (judged s written.schedule))) (sym of.setting_is)
-          (at_schedule contents check_words (to_check circuit trap schedule) schedule of.circuit of.trap _ check_request refl of.of_circuit of.of_trap judges);
+      judges = subst (λ (s : Setting). Prepares (all_of later) check_words (Ok (judged s written.schedule))) (sym of.setting_is)
+          (at_schedule later check_words (to_check circuit trap schedule) schedule of.circuit of.trap _ check_request refl of_circuit of_trap judges);
       text_is = written.text_is;
     }

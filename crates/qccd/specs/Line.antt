@@ -3,6 +3,7 @@ use Rattle.std.specs.Prelude.{ℕ, List, [], ◌++◌, Option, Some, None, decim
 use Rattle.qccd.specs.declared.line.Line.{Line}
 use Rattle.qccd.specs.declared.line.Part.{Part}
 
+-- a number in decimal, where there is one
 abbrev pub digits_of : Option ℕ → List ℕ
 digits_of None = []
 digits_of (Some number) = decimal number

@@ -68,6 +68,7 @@ pub record ProgramOf (bytes : List ℕ) (outcome : Result (List Placed) Answer) 
 pub record CircuitOf (content : Option (List ℕ)) (outcome : Result Parts Answer) : Type 0 where
   pub stages : Then (Is (bytes_of Circuit content)) (λ bytes. Then (ProgramOf bytes) (λ program. Is (circuit_of program))) outcome
 
+-- the trap's file: its bytes, and the trap that they are the text of
 abbrev pub TrapOf : Option (List ℕ) → Result Lists Answer → Type 0
 TrapOf content = FileOf Trap IsZoneText content
 

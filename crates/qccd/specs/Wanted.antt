@@ -12,9 +12,11 @@ pub record Files : Type 0 where
   pub trap : List ℕ
   pub schedule : Option (List ℕ)
 
+-- a circuit and a trap to compile
 abbrev pub to_compile : List ℕ → List ℕ → Files
 to_compile circuit trap = record { circuit = circuit; trap = trap; schedule = None }
 
+-- and a schedule of them to check
 abbrev pub to_check : List ℕ → List ℕ → List ℕ → Files
 to_check circuit trap schedule = record { circuit = circuit; trap = trap; schedule = Some schedule }
 
@@ -25,6 +27,7 @@ plain_from circuit trap Declared (Some search) = Err answers.Unbuilt
 plain_from circuit trap FirstUse search = Err answers.Unbuilt
 plain_from circuit trap Given search = Err answers.Unbuilt
 
+-- what a request asks for
 abbrev pub wanted_by : Option Asked → Result Files Answer
 wanted_by None = Err answers.Usage
 wanted_by (Some (compile circuit trap rule search)) = plain_from circuit trap rule search

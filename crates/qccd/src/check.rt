@@ -49,8 +49,8 @@ fn operations_in(actions: &[Action]) -> u64
     count
 }
 
-#[tactic(auto, using(crate::proofs::Counting::step_counted, crate::proofs::Counting::operations_few))]
 /// How many operations these steps perform together.
+#[tactic(auto, using(crate::proofs::Counting::step_counted, crate::proofs::Counting::operations_few))]
 fn operation_count(steps: &[Step]) -> u64
     requires { length (actions_of steps.now) < 2 ^ 64 }
     ensures { result ≡ how_many is_operation (actions_of steps.now) }
@@ -106,8 +106,8 @@ fn illegal(fault: PlayFault) -> Answer
     }
 }
 
-#[tactic(auto, using(crate::proofs::Judging::verdict_done, crate::proofs::Judging::said_of))]
 /// Plays a schedule: what is said of it, or its first fault.
+#[tactic(auto, using(crate::proofs::Judging::verdict_done, crate::proofs::Judging::said_of))]
 fn verdict(
     alloc: Global,
     trap: &Trap,
@@ -129,8 +129,8 @@ fn verdict(
     }
 }
 
-#[tactic(auto, using(crate::proofs::Judging::refused_text))]
 /// What is said of the schedule that the bytes are the text of, or the first bad line, or the first fault.
+#[tactic(auto, using(crate::proofs::Judging::refused_text))]
 pub fn judged_text(
     alloc: Global,
     trap: &Trap,

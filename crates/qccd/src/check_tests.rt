@@ -16,6 +16,68 @@ use step_rules::Rule;
 /// Two operations, of which the first has to come before the second.
 const ORDERED: &[u8] = b"OPENQASM 2.0;\nqreg q[2];\nCX q[0],q[1];\nCX q[1],q[0];\n";
 
+/// Bodies of texts whose schedules do not play, with their first faults and the lines of these.
+const NOT_PLAYED: [(&[u8], PlayFault, &[u8]); 7] = [
+    (
+        b"steps 1\nstep 1\nswap A 1\nend\n",
+        PlayFault::Broken {
+            step: 1,
+            action: 1,
+            rule: Rule::Index,
+        },
+        b"qccd: step 1 action 1: index\n",
+    ),
+    (
+        b"steps 2\nstep 1\nstep 2\nswap A 0\nsplit A a 1\nend\n",
+        PlayFault::Broken {
+            step: 2,
+            action: 2,
+            rule: Rule::NoJoin,
+        },
+        b"qccd: step 2 action 2: nojoin\n",
+    ),
+    (
+        b"steps 1\nstep 1\nmove A A\nend\n",
+        PlayFault::Broken {
+            step: 1,
+            action: 1,
+            rule: Rule::NoPlace,
+        },
+        b"qccd: step 1 action 1: noplace\n",
+    ),
+    (
+        b"steps 1\nstep 1\nop A 0 ions 0 1 : CX q[0],q[1];\nop A 1 ions 1 0 : CX q[1],q[0];\nend\n",
+        PlayFault::Shared {
+            step: 1,
+            first: 1,
+            second: 2,
+        },
+        b"qccd: step 1 actions 1 and 2 share\n",
+    ),
+    (
+        b"steps 1\nstep 1\nop A 1 ions 1 0 : CX q[1],q[0];\nend\n",
+        PlayFault::Early {
+            step: 1,
+            op: OpId(1),
+            needs: OpId(0),
+        },
+        b"qccd: step 1 operation 1 before 0\n",
+    ),
+    (
+        b"steps 2\nstep 1\nop A 0 ions 0 1 : CX q[0],q[1];\nstep 2\nop A 0 ions 0 1 : CX q[0],q[1];\nend\n",
+        PlayFault::Twice {
+            step: 2,
+            op: OpId(0),
+        },
+        b"qccd: step 2 operation 0 twice\n",
+    ),
+    (
+        b"steps 0\nend\n",
+        PlayFault::Missing { op: OpId(0) },
+        b"qccd: operation 0 missing\n",
+    ),
+];
+
 /// Whether a check of this schedule answers so, and writes this to the one sink and that to the other.
 fn judges(
     rt: &impl Abort,
@@ -34,51 +96,6 @@ fn judges(
     assert!(rt; run(alloc, &words, &mut shelf, &mut out, &mut err) == answer);
     assert!(rt; out.bytes() == out_text);
     assert!(rt; err.bytes() == err_text);
-    Ok(())
-}
-
-#[test]
-fn a_compiled_schedule_is_legal(rt: HostRuntime) -> Result<(), Fail> {
-    let line = b"legal steps 1 actions 1 operations 1\n";
-    judges(&rt, rt.alloc(), TWO, TWO_TEXT, Answer::Ok, line, b"")
-}
-
-/// Whether a check of what is compiled from these files says this.
-fn judges_compiled(
-    rt: &impl Abort,
-    alloc: Global,
-    circuit: &[u8],
-    trap: &[u8],
-    line: &[u8],
-) -> Result<(), Fail> {
-    let mut shelf = shelf(alloc, circuit, trap, Vec::new(alloc))?;
-    let mut text = MemSink::new(alloc, 100, 1000, Vec::new(alloc))?;
-    let mut out = MemSink::new(alloc, 100, 100, Vec::new(alloc))?;
-    let mut err = MemSink::new(alloc, 100, 100, Vec::new(alloc))?;
-    let compile = compile_words(alloc)?;
-    assert!(rt; run(alloc, &compile, &mut shelf, &mut text, &mut err) == Answer::Ok);
-    shelf.add("s.txt", text.bytes())?;
-    let check = words(alloc, &["check", "c.qasm", "t.toml", "s.txt"])?;
-    assert!(rt; run(alloc, &check, &mut shelf, &mut out, &mut err) == Answer::Ok);
-    assert!(rt; out.bytes() == line);
-    assert!(rt; err.bytes().is_empty());
-    Ok(())
-}
-
-#[test]
-fn compiled_schedules_are_legal(rt: HostRuntime) -> Result<(), Fail> {
-    let table: [(&[u8], &[u8], &[u8]); 3] = [
-        (ONE, ROOM_FOR_ONE, b"legal steps 0 actions 0 operations 0\n"),
-        (TWO, ROOM_FOR_TWO, b"legal steps 1 actions 1 operations 1\n"),
-        (
-            FOUR,
-            ROOM_FOR_FOUR,
-            b"legal steps 2 actions 2 operations 2\n",
-        ),
-    ];
-    for (circuit, trap, line) in table {
-        judges_compiled(&rt, rt.alloc(), circuit, trap, line)?;
-    }
     Ok(())
 }
 
@@ -112,67 +129,7 @@ fn schedules_that_play(rt: HostRuntime) -> Result<(), Fail> {
 #[test]
 fn schedules_that_do_not_play(rt: HostRuntime) -> Result<(), Fail> {
     let alloc = rt.alloc();
-    let table: [(&[u8], PlayFault, &[u8]); 7] = [
-        (
-            b"steps 1\nstep 1\nswap A 1\nend\n",
-            PlayFault::Broken {
-                step: 1,
-                action: 1,
-                rule: Rule::Index,
-            },
-            b"qccd: step 1 action 1: index\n",
-        ),
-        (
-            b"steps 2\nstep 1\nstep 2\nswap A 0\nsplit A a 1\nend\n",
-            PlayFault::Broken {
-                step: 2,
-                action: 2,
-                rule: Rule::NoJoin,
-            },
-            b"qccd: step 2 action 2: nojoin\n",
-        ),
-        (
-            b"steps 1\nstep 1\nmove A A\nend\n",
-            PlayFault::Broken {
-                step: 1,
-                action: 1,
-                rule: Rule::NoPlace,
-            },
-            b"qccd: step 1 action 1: noplace\n",
-        ),
-        (
-            b"steps 1\nstep 1\nop A 0 ions 0 1 : CX q[0],q[1];\nop A 1 ions 1 0 : CX q[1],q[0];\nend\n",
-            PlayFault::Shared {
-                step: 1,
-                first: 1,
-                second: 2,
-            },
-            b"qccd: step 1 actions 1 and 2 share\n",
-        ),
-        (
-            b"steps 1\nstep 1\nop A 1 ions 1 0 : CX q[1],q[0];\nend\n",
-            PlayFault::Early {
-                step: 1,
-                op: OpId(1),
-                needs: OpId(0),
-            },
-            b"qccd: step 1 operation 1 before 0\n",
-        ),
-        (
-            b"steps 2\nstep 1\nop A 0 ions 0 1 : CX q[0],q[1];\nstep 2\nop A 0 ions 0 1 : CX q[0],q[1];\nend\n",
-            PlayFault::Twice {
-                step: 2,
-                op: OpId(0),
-            },
-            b"qccd: step 2 operation 0 twice\n",
-        ),
-        (
-            b"steps 0\nend\n",
-            PlayFault::Missing { op: OpId(0) },
-            b"qccd: operation 0 missing\n",
-        ),
-    ];
-    for (body, fault, line) in table {
+    for (body, fault, line) in NOT_PLAYED {
         let text = with_body(alloc, body)?;
         judges(
             &rt,

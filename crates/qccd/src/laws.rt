@@ -15,11 +15,12 @@ pub fn one_outcome()
     ensures { (found : Found) (words : List (List ℕ)) (a b : Result Work Answer) → Prepares found words a → Prepares found words b → a ≡ b }
 {}
 
-/// A check of the text that a compilation wrote says that it is legal.
+/// A check of the text that a compilation wrote says that it is legal, once the text is put on the shelf and circuit and trap stand there as before.
 pub fn a_compiled_schedule_is_legal()
-    ensures { (contents : Contents) (words check_words : List (List ℕ)) (circuit trap schedule text : List ℕ) (setting : Setting)
+    ensures { (before after : Contents) (words check_words : List (List ℕ)) (circuit trap schedule text : List ℕ) (setting : Setting)
         → files_of words ≡ Ok (to_compile circuit trap) → files_of check_words ≡ Ok (to_check circuit trap schedule)
-        → Prepares (all_of contents) words (Ok (make setting)) → IsTextOf setting text
-        → contents schedule ≡ Some text → length text ≤ 2 ^ 30
-        → IsJudgedLegal contents check_words setting text }
+        → Prepares (all_of before) words (Ok (make setting)) → IsTextOf setting text
+        → after circuit ≡ before circuit → after trap ≡ before trap
+        → after schedule ≡ Some text → length text ≤ 2 ^ 30
+        → IsJudgedLegal after check_words setting text }
 {}

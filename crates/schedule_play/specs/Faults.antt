@@ -27,6 +27,7 @@ pub record Before : Type 0 where
   pub steps : List (List Action)
   pub actions : List Action
 
+-- these steps, and these actions of the next
 abbrev pub behind : List (List Action) → List Action → Before
 behind steps actions = record { steps = steps; actions = actions }
 

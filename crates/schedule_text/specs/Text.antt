@@ -43,6 +43,7 @@ abbrev pub op_line : Setting → ℕ → Op → List ℕ
 op_line setting number op =
     decimal number ++ codes " ions" ++ ion_words setting.placement op ++ codes " : " ++ op_text setting.circuit op ++ codes "\n"
 
+-- an end, as it is written
 abbrev pub end_text : End → List ℕ
 end_text A = codes "a"
 end_text B = codes "b"
@@ -51,6 +52,7 @@ end_text B = codes "b"
 abbrev pub zone_end : Lists → ℕ → End → List ℕ
 zone_end trap zone end = place_text trap zone ++ codes " " ++ end_text end
 
+-- two places with a space between them
 abbrev pub two_places : Lists → ℕ → ℕ → List ℕ
 two_places trap from to = place_text trap from ++ codes " " ++ place_text trap to
 
@@ -74,6 +76,7 @@ swap_line trap zone index = codes "swap " ++ place_text trap zone ++ codes " " +
 abbrev pub performed_line : Setting → ℕ → ℕ → List ℕ
 performed_line setting zone op = codes "op " ++ place_text setting.trap zone ++ codes " " ++ at (op_line setting op) setting.circuit.ops op
 
+-- the line of an action
 abbrev pub action_line : Setting → Action → List ℕ
 action_line setting (actions.Split zone end count) = split_line setting.trap zone.0 end count
 action_line setting (actions.Move from to) = move_line setting.trap from.0 to.0
@@ -87,6 +90,7 @@ abbrev pub step_lines : Setting → ℕ → List (List Action) → List ℕ
 step_lines setting number [] = []
 step_lines setting number (step ∷ steps) = codes "step " ++ decimal number ++ codes "\n" ++ flat_map (action_line setting) step ++ step_lines setting (number + 1) steps
 
+-- the whole text: the head, the placement, the steps with their count, and the end
 abbrev pub schedule_text : Setting → List (List Action) → List ℕ
 schedule_text setting steps =
     codes "qccd schedule 1\n" ++ place_lines setting.circuit setting.trap.zones setting.placement
