@@ -83,6 +83,12 @@ fn operands_of_each_operator(rt: HostRuntime) -> Result<(), Fail> {
     for (exp, wanted) in rows {
         assert_eq!(rt; printed(alloc, exp)?.as_slice(), wanted);
     }
+    Ok(())
+}
+
+#[test]
+fn malformed_expressions(rt: HostRuntime) -> Result<(), Fail> {
+    let alloc = rt.alloc();
     for exp in [b"a+".as_slice(), b"(a", b"a)"] {
         assert!(rt; matches!(printed(alloc, exp), Err(QasmFault::Statement { at: 13 })));
     }
@@ -96,14 +102,9 @@ fn surrounded(
     after: &[u8],
     count: usize,
 ) -> Result<Vec<u8>, NoMemory> {
-    let mut text = Vec::new(alloc);
-    for _ in 0..count {
-        text.extend_from_slice(before)?;
-    }
+    let mut text = before.repeat(alloc, count)?;
     text.push(b'a')?;
-    for _ in 0..count {
-        text.extend_from_slice(after)?;
-    }
+    text.extend_from_slice(&after.repeat(alloc, count)?)?;
     Ok(text)
 }
 

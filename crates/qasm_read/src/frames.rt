@@ -32,6 +32,7 @@ impl Model for Frames {
 }
 
 impl Frames {
+    /// No frame.
     pub fn new(alloc: Global) -> Frames
         ensures { result ≡ [] }
     {

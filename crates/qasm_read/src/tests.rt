@@ -131,7 +131,7 @@ fn holds(alloc: Global, pieces: &[Piece], wanted: u8) -> bool {
 }
 
 #[test]
-fn each_statement(rt: HostRuntime) -> Result<(), Fail> {
+fn includes_and_registers(rt: HostRuntime) -> Result<(), Fail> {
     let alloc = rt.alloc();
     let include = [Piece::Word(Keyword::Include), Piece::Text, SEMICOLON];
     assert!(rt; holds(alloc, &include, 0));
@@ -153,6 +153,12 @@ fn each_statement(rt: HostRuntime) -> Result<(), Fail> {
         SEMICOLON,
     ];
     assert!(rt; holds(alloc, &creg, 2));
+    Ok(())
+}
+
+#[test]
+fn gates_with_and_without_a_body(rt: HostRuntime) -> Result<(), Fail> {
+    let alloc = rt.alloc();
     let gate = [
         Piece::Word(Keyword::Gate),
         A,
@@ -176,6 +182,12 @@ fn each_statement(rt: HostRuntime) -> Result<(), Fail> {
     assert!(rt; holds(alloc, &gate, 3));
     let opaque = [Piece::Word(Keyword::Opaque), A, OPEN, CLOSE, B, SEMICOLON];
     assert!(rt; holds(alloc, &opaque, 4));
+    Ok(())
+}
+
+#[test]
+fn barriers_and_conditions(rt: HostRuntime) -> Result<(), Fail> {
+    let alloc = rt.alloc();
     let barrier = [
         Piece::Word(Keyword::Barrier),
         A,
