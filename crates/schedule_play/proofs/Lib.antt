@@ -8,4 +8,4 @@ pub mod Judged
 pub mod Stepped
 pub mod Played
 pub mod Verdicts
-pub mod Plain
+pub mod PlainJudged

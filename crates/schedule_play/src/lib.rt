@@ -4,6 +4,8 @@
 mod fault;
 mod laws;
 mod nearest;
+#[cfg(test)]
+mod plain;
 mod progress;
 mod simulator;
 #[cfg(test)]

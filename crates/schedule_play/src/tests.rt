@@ -1,105 +1,62 @@
 //! Schedules that play, the first fault of those that don't, and a plain simulator that is compared with the other.
 
-ghost use Rattle.std.specs.Prelude.{◌≡◌, ℕ, ◌+◌, ◌<◌, [], ◌↔◌, IsTrue, true, false, All, length, take, slice_get, Some, IfOk, IfErr, MatchOption, MatchResult};
-ghost use Rattle.std.specs.List.{list_any};
+ghost use Rattle.std.specs.Prelude.{◌≡◌, ◌<◌, IsTrue, All, IfOk};
 ghost use Rattle.circuit_core.specs.Circuit.{qubit_count, IsOpOn};
 ghost use Rattle.trap_model.specs.Names.{is_name};
-ghost use Rattle.trap_model.specs.Trap.{lists, names_of};
 ghost use Rattle.trap_model.specs.Build.{AreNames};
-ghost use Rattle.step_rules.specs.declared.action.Action.{Action as AnAction};
-ghost use Rattle.step_rules.specs.Setting.{setting_of};
-ghost use Rattle.step_rules.specs.Placement.{IsPlacement, start_of};
+ghost use Rattle.step_rules.specs.Placement.{IsPlacement};
 ghost use Rattle.step_rules.specs.Config.{IsConfigOf};
-ghost use Rattle.step_rules.specs.Steps.{AreApart, after_step};
-ghost use Rattle.step_rules.specs.Tests.{is_performed};
-ghost use Rattle.step_rules.specs.Play.{Plays, performs};
-ghost use Rattle.schedule_play.specs.Faults.{after_steps, behind, config_at, is_done, Owes, OwesFirst, IsWell, MeetsFirst, Offends, Explains};
-ghost use Rattle.schedule_play.specs.Progress.{StepIsWell, ExplainsStep, MayBeTaken};
-ghost use Rattle.schedule_play.specs.Plain.{OpGoes, OpFails, IsFirstUndone};
 
 use crate::fault::PlayFault;
-use crate::simulator::{Scene, play};
-use circuit_core::{Circuit, Op, Reg, forced};
+use crate::plain::slow_play;
+use crate::simulator::play;
+use circuit_core::{Circuit, Op, Reg};
 use qc_base::{End, Ion, JunctionId, Name, NoMemory, OpId, PlaceId, Qubit};
 use std::alloc::Global;
 use std::process::Abort;
 use std::test::Fail;
-use step_rules::{
-    Action, Config, GivenFault, Placement, Qubits, Rule, Schedule, Step, enabled, footprint,
-};
+use step_rules::{Action, Config, GivenFault, Placement, Qubits, Rule, Schedule};
 use trap_model::{EndName, JoinPart, SegmentPart, Trap, TrapParts, ZonePart};
 
-// Whether it is a single letter.
-fn is_letter(bytes: &[u8]) -> bool
-    ensures { IsTrue result → IsTrue (is_name bytes.now) }
+fn zone(alloc: Global, name: &[u8]) -> Result<ZonePart, NoMemory>
+    requires { IsTrue (is_name name.now) }
+    ensures { IfOk result (λ zone. IsTrue (is_name zone.name)) }
 {
-    match bytes {
-        [letter] => letter.is_ascii_alphabetic(),
-        _ => false,
-    }
-}
-
-fn zones_named(zones: &[ZonePart]) -> bool
-    ensures { IsTrue result → All (λ zone. IsTrue (is_name zone.name)) zones.now }
-{
-    for zone in zones {
-        if !is_letter(zone.name.bytes()) {
-            return false;
-        }
-    }
-    true
-}
-
-fn segments_named(segments: &[SegmentPart]) -> bool
-    ensures { IsTrue result → All (λ segment. IsTrue (is_name segment.name)) segments.now }
-{
-    for segment in segments {
-        if !is_letter(segment.name.bytes()) {
-            return false;
-        }
-    }
-    true
-}
-
-fn junctions_named(junctions: &[Name]) -> bool
-    ensures { IsTrue result → AreNames junctions.now }
-{
-    for junction in junctions {
-        if !is_letter(junction.bytes()) {
-            return false;
-        }
-    }
-    true
-}
-
-fn are_named(parts: &TrapParts) -> bool
-    ensures { IsTrue result → AreNames (names_of (lists parts.now)) }
-{
-    if !zones_named(parts.zones.as_slice()) {
-        return false;
-    }
-    if !segments_named(parts.segments.as_slice()) {
-        return false;
-    }
-    junctions_named(parts.junctions.as_slice())
-}
-
-fn zone(alloc: Global, name: &[u8], capacity: u32) -> Result<ZonePart, NoMemory> {
     Ok(ZonePart {
         name: Name::from_bytes(alloc, name)?,
-        capacity,
+        capacity: 3,
         one: false,
         two: true,
         read: false,
     })
 }
 
-fn segment(alloc: Global, name: &[u8], slots: u32, load: u32) -> Result<SegmentPart, NoMemory> {
+fn zones(alloc: Global) -> Result<Vec<ZonePart>, NoMemory>
+    ensures { IfOk result (λ zones. All (λ zone. IsTrue (is_name zone.name)) zones.items) }
+{
+    let mut zones = Vec::new(alloc);
+    zones.push(zone(alloc, b"A")?)?;
+    zones.push(zone(alloc, b"B")?)?;
+    Ok(zones)
+}
+
+fn segment(alloc: Global, name: &[u8], slots: u32, load: u32) -> Result<SegmentPart, NoMemory>
+    requires { IsTrue (is_name name.now) }
+    ensures { IfOk result (λ segment. IsTrue (is_name segment.name)) }
+{
     Ok(SegmentPart {
         name: Name::from_bytes(alloc, name)?,
         slots,
         load,
     })
+}
+
+fn junctions(alloc: Global) -> Result<Vec<Name>, NoMemory>
+    ensures { IfOk result (λ junctions. AreNames junctions.items) }
+{
+    let mut junctions = Vec::new(alloc);
+    junctions.push(Name::from_bytes(alloc, b"J")?)?;
+    Ok(junctions)
 }
 
 fn end_name(alloc: Global, name: &[u8], end: Option<End>) -> Result<EndName, NoMemory> {
@@ -110,146 +67,90 @@ fn end_name(alloc: Global, name: &[u8], end: Option<End>) -> Result<EndName, NoM
 }
 
 // The end of a zone or a segment, and the end of a segment or a junction.
-fn join(
-    alloc: Global,
-    first: (&[u8], End),
-    second: (&[u8], Option<End>),
-) -> Result<JoinPart, NoMemory> {
-    Ok(JoinPart {
-        first: end_name(alloc, first.0, Some(first.1))?,
-        second: end_name(alloc, second.0, second.1)?,
-    })
+type Join<'a> = ((&'a [u8], End), (&'a [u8], Option<End>));
+
+fn joins_of(alloc: Global, joins: &[Join<'_>]) -> Result<Vec<JoinPart>, NoMemory> {
+    let mut parts = Vec::new(alloc);
+    for (first, second) in joins {
+        parts.push(JoinPart {
+            first: end_name(alloc, first.0, Some(first.1))?,
+            second: end_name(alloc, second.0, second.1)?,
+        })?;
+    }
+    Ok(parts)
 }
 
-// Zones A and B with room for three ions each, and no way yet.
-fn two_zones(alloc: Global) -> Result<TrapParts, NoMemory> {
-    let mut zones = Vec::new(alloc);
-    zones.push(zone(alloc, b"A", 3)?)?;
-    zones.push(zone(alloc, b"B", 3)?)?;
-    Ok(TrapParts {
-        zones,
-        segments: Vec::new(alloc),
-        junctions: Vec::new(alloc),
-        joins: Vec::new(alloc),
-    })
-}
-
-fn built(rt: &impl Abort, alloc: Global, parts: TrapParts) -> Result<Trap, Fail> {
-    assert!(rt; are_named(&parts));
+// Zones A and B with room for three ions each, junction J, and these segments and joins.
+fn trap_of(alloc: Global, segments: Vec<SegmentPart>, joins: &[Join<'_>]) -> Result<Trap, Fail>
+    requires { All (λ segment. IsTrue (is_name segment.name)) segments.items }
+{
+    let parts = TrapParts {
+        zones: zones(alloc)?,
+        segments,
+        junctions: junctions(alloc)?,
+        joins: joins_of(alloc, joins)?,
+    };
     let trap = Trap::build(alloc, parts)?;
     Ok(trap)
 }
 
-// Zone A by the slot s.0 to junction J, and from there by the slot t.0, with room for two ions each, to zone B.
-fn line(rt: &impl Abort, alloc: Global, load: u32) -> Result<Trap, Fail> {
-    let mut parts = two_zones(alloc)?;
-    parts.segments.push(segment(alloc, b"s", 1, load)?)?;
-    parts.segments.push(segment(alloc, b"t", 1, 2)?)?;
-    parts.junctions.push(Name::from_bytes(alloc, b"J")?)?;
-    parts
-        .joins
-        .push(join(alloc, (b"A", End::B), (b"s", Some(End::A)))?)?;
-    parts
-        .joins
-        .push(join(alloc, (b"s", End::B), (b"J", None))?)?;
-    parts
-        .joins
-        .push(join(alloc, (b"t", End::A), (b"J", None))?)?;
-    parts
-        .joins
-        .push(join(alloc, (b"B", End::A), (b"t", Some(End::B)))?)?;
-    built(rt, alloc, parts)
+// Zone A by segment s to junction J, and from there by t.0, with room for two ions, to zone B.
+fn line(alloc: Global, slots: u32, load: u32) -> Result<Trap, Fail> {
+    let mut segments = Vec::new(alloc);
+    segments.push(segment(alloc, b"s", slots, load)?)?;
+    segments.push(segment(alloc, b"t", 1, 2)?)?;
+    let joins: [Join<'_>; 4] = [
+        ((b"A", End::B), (b"s", Some(End::A))),
+        ((b"s", End::B), (b"J", None)),
+        ((b"t", End::A), (b"J", None)),
+        ((b"B", End::A), (b"t", Some(End::B))),
+    ];
+    trap_of(alloc, segments, &joins)
 }
 
 // Junction J with four arms: by s.0 from zone A, by t.0 from zone B, and u.0 and v.0.
-fn star(rt: &impl Abort, alloc: Global) -> Result<Trap, Fail> {
-    let mut parts = two_zones(alloc)?;
-    parts.segments.push(segment(alloc, b"s", 1, 2)?)?;
-    parts.segments.push(segment(alloc, b"t", 1, 2)?)?;
-    parts.segments.push(segment(alloc, b"u", 1, 2)?)?;
-    parts.segments.push(segment(alloc, b"v", 1, 2)?)?;
-    parts.junctions.push(Name::from_bytes(alloc, b"J")?)?;
-    parts
-        .joins
-        .push(join(alloc, (b"A", End::B), (b"s", Some(End::A)))?)?;
-    parts
-        .joins
-        .push(join(alloc, (b"B", End::B), (b"t", Some(End::A)))?)?;
-    parts
-        .joins
-        .push(join(alloc, (b"s", End::B), (b"J", None))?)?;
-    parts
-        .joins
-        .push(join(alloc, (b"t", End::B), (b"J", None))?)?;
-    parts
-        .joins
-        .push(join(alloc, (b"u", End::A), (b"J", None))?)?;
-    parts
-        .joins
-        .push(join(alloc, (b"v", End::A), (b"J", None))?)?;
-    built(rt, alloc, parts)
+fn star(alloc: Global) -> Result<Trap, Fail> {
+    let mut segments = Vec::new(alloc);
+    segments.push(segment(alloc, b"s", 1, 2)?)?;
+    segments.push(segment(alloc, b"t", 1, 2)?)?;
+    segments.push(segment(alloc, b"u", 1, 2)?)?;
+    segments.push(segment(alloc, b"v", 1, 2)?)?;
+    let joins: [Join<'_>; 6] = [
+        ((b"A", End::B), (b"s", Some(End::A))),
+        ((b"B", End::B), (b"t", Some(End::A))),
+        ((b"s", End::B), (b"J", None)),
+        ((b"t", End::B), (b"J", None)),
+        ((b"u", End::A), (b"J", None)),
+        ((b"v", End::A), (b"J", None)),
+    ];
+    trap_of(alloc, segments, &joins)
 }
 
-// Zone A before the three slots of s, and zone B apart.
-fn row(rt: &impl Abort, alloc: Global) -> Result<Trap, Fail> {
-    let mut parts = two_zones(alloc)?;
-    parts.segments.push(segment(alloc, b"s", 3, 2)?)?;
-    parts
-        .joins
-        .push(join(alloc, (b"A", End::B), (b"s", Some(End::A)))?)?;
-    built(rt, alloc, parts)
-}
-
-// Whether it is an operation on two of four qubits, with no condition.
-fn is_op(op: &Op) -> bool
-    ensures { IsTrue result → IsOpOn 4 op.now }
-{
-    match op {
-        Op::Cx {
-            control,
-            target,
-            cond,
-        } => control.0 < 4 && target.0 < 4 && control.0 != target.0 && cond.is_none(),
-    }
-}
-
-fn are_ops(ops: &[Op]) -> bool
-    ensures { IsTrue result → All (IsOpOn 4) ops.now }
-{
-    for op in ops {
-        if !is_op(op) {
-            return false;
-        }
-    }
-    true
-}
-
-// A circuit of four qubits and these operations.
-fn circuit_of(rt: &impl Abort, alloc: Global, pairs: &[(u32, u32)]) -> Result<Circuit, NoMemory>
-    ensures { IfOk result (λ circuit. qubit_count circuit ≡ 4) }
+// The operations on these pairs of four qubits.
+fn ops_of(rt: &impl Abort, alloc: Global, pairs: &[(u32, u32)]) -> Result<Vec<Op>, NoMemory>
+    ensures { IfOk result (λ ops. All (IsOpOn 4) ops.items) }
 {
     let mut ops = Vec::new(alloc);
     for (control, target) in pairs {
+        assert!(rt; *control < 4 && *target < 4 && *control != *target);
         ops.push(Op::Cx {
             control: Qubit(*control),
             target: Qubit(*target),
             cond: None,
         })?;
     }
-    assert!(rt; are_ops(ops.as_slice()));
+    Ok(ops)
+}
+
+fn circuit_of(rt: &impl Abort, alloc: Global, pairs: &[(u32, u32)]) -> Result<Circuit, NoMemory>
+    ensures { IfOk result (λ circuit. qubit_count circuit ≡ 4) }
+{
+    let ops = ops_of(rt, alloc, pairs)?;
     assert!(rt; ops.len() <= 10);
     let name = Name::from_bytes(alloc, b"q")?;
     let mut qregs = Vec::new(alloc);
     qregs.push(Reg { name, size: 4 })?;
     Ok(Circuit::new(qregs, Vec::new(alloc), ops))
-}
-
-fn qubits_of(alloc: Global, numbers: &[u32]) -> Result<Qubits, NoMemory> {
-    let mut items = Vec::new(alloc);
-    for number in numbers {
-        items.push(Qubit(*number))?;
-    }
-    Ok(Qubits::from_vec(items))
 }
 
 fn are_below(qubits: &[Qubit], count: u32) -> bool
@@ -267,8 +168,8 @@ fn placed(
 ) -> Result<Placement, GivenFault>
     ensures { IfOk result (IsPlacement trap.now circuit.now) }
 {
-    let first = qubits_of(alloc, &[0, 1])?;
-    let second = qubits_of(alloc, &[2, 3])?;
+    let first = Qubits::from_vec(Vec::from_slice(alloc, &[Qubit(0), Qubit(1)])?);
+    let second = Qubits::from_vec(Vec::from_slice(alloc, &[Qubit(2), Qubit(3)])?);
     assert!(rt; trap.zones().len() == 2);
     let count = circuit.qubits();
     assert!(rt; are_below(first.items(), count));
@@ -358,10 +259,7 @@ fn stops(
     let circuit = circuit_of(rt, alloc, pairs)?;
     let placement = placed(rt, alloc, trap, &circuit)?;
     let schedule = schedule_of(rt, alloc, steps)?;
-    let found = match play(alloc, trap, &circuit, &placement, &schedule) {
-        Ok(_) => None,
-        Err(fault) => Some(fault),
-    };
+    let found = play(alloc, trap, &circuit, &placement, &schedule).err();
     assert!(rt; found == Some(fault), "{found:?}");
     Ok(())
 }
@@ -395,215 +293,6 @@ fn plays(
     let config = play(alloc, trap, &circuit, &placement, &schedule)?;
     compare(rt, trap, &config, places);
     Ok(())
-}
-
-// ---- a plain simulator
-
-// Whether the action performs the operation.
-fn does(action: &Action, op: OpId) -> bool
-    ensures { result ≡ performs op.0 action.now }
-{
-    match action {
-        Action::Op { op: other, .. } => other.0 == op.0,
-        _ => false,
-    }
-}
-
-fn some_does(actions: &[Action], op: OpId) -> bool
-    ensures { result ≡ list_any (performs op.0) actions.now }
-{
-    for action in actions {
-        if does(action, op) {
-            return true;
-        }
-    }
-    false
-}
-
-// Whether an action of these steps performs the operation.
-fn is_done_by(steps: &[Step], op: OpId) -> bool
-    ensures { result ≡ is_done steps.now op.0 }
-{
-    for step in steps {
-        if some_does(step.actions(), op) {
-            return true;
-        }
-    }
-    false
-}
-
-// Whether an action has to perform the operation.
-fn has_action(circuit: &Circuit, op: OpId) -> bool
-    ensures { result ≡ is_performed circuit.now op.0 }
-{
-    match circuit.op(op) {
-        Some(Op::Cx { .. }) => true,
-        None => false,
-    }
-}
-
-// Whether the one has to come before the other and was not performed in these steps.
-fn owes(scene: &Scene, past: &[Step], needs: OpId, op: OpId) -> bool
-    ensures { IsTrue result ↔ Owes (setting_of scene.now.trap.now scene.now.circuit.now scene.now.placement.now) (behind past.now []) op.0 needs.0 }
-{
-    if !has_action(scene.circuit, needs) {
-        return false;
-    }
-    !is_done_by(past, needs) && forced(scene.circuit, needs, op)
-}
-
-// The least operation that is owed.
-fn first_owed(scene: &Scene, past: &[Step], op: OpId) -> Option<OpId>
-    ensures { MatchOption result
-        ((needs : ℕ) → Owes (setting_of scene.now.trap.now scene.now.circuit.now scene.now.placement.now) (behind past.now []) op.0 needs → ⊥)
-        (λ needs. OwesFirst (setting_of scene.now.trap.now scene.now.circuit.now scene.now.placement.now) (behind past.now []) op.0 needs.0) }
-{
-    for number in 0..scene.circuit.ops().len() as u32 {
-        let needs = OpId(number);
-        if owes(scene, past, needs, op) {
-            return Some(needs);
-        }
-    }
-    None
-}
-
-// The first of these actions that works on something that the action works on.
-fn first_shared(trap: &Trap, actions: &[Action], action: &Action) -> Option<usize>
-    ensures { MatchOption result (All (λ other. AreApart trap.now other action.now) actions.now) (λ place. MeetsFirst trap.now actions.now action.now (place + 1)) }
-{
-    let works = footprint(trap, action);
-    for (place, other) in actions.iter().enumerate() {
-        if footprint(trap, other).meets(&works) {
-            return Some(place);
-        }
-    }
-    None
-}
-
-// Judges the operation of an action behind these.
-fn slow_judge_op(scene: &Scene, past: &[Step], before: &[Action], op: OpId) -> Result<(), PlayFault>
-    ensures { MatchResult result
-        (λ _. OpGoes (setting_of scene.now.trap.now scene.now.circuit.now scene.now.placement.now) (behind past.now before.now) op.0)
-        (OpFails (setting_of scene.now.trap.now scene.now.circuit.now scene.now.placement.now) (behind past.now before.now) op) }
-{
-    let step = past.len() as u64 + 1;
-    if let Some(needs) = first_owed(scene, past, op) {
-        return Err(PlayFault::Early { step, op, needs });
-    }
-    if is_done_by(past, op) || some_does(before, op) {
-        return Err(PlayFault::Twice { step, op });
-    }
-    Ok(())
-}
-
-// Judges the action at that place of a step.
-fn slow_judge(
-    scene: &Scene,
-    config: &Config,
-    past: &[Step],
-    step: &[Action],
-    place: usize,
-) -> Result<(), PlayFault>
-    requires config { IsConfigOf scene.now.trap.now config.now }
-    requires stands { config.now.lists ≡ config_at (setting_of scene.now.trap.now scene.now.circuit.now scene.now.placement.now) (behind past.now []) }
-    requires there { place < length step.now }
-    ensures well { (action : AnAction) → slice_get step.now place ≡ Some action → MatchResult result
-        (λ _. IsWell (setting_of scene.now.trap.now scene.now.circuit.now scene.now.placement.now) (behind past.now (take place step.now)) action)
-        (Offends (setting_of scene.now.trap.now scene.now.circuit.now scene.now.placement.now) (behind past.now (take place step.now)) action) }
-{
-    let action = &step[place];
-    if let Err(rule) = enabled(scene.trap, scene.circuit, scene.placement, config, action) {
-        return Err(PlayFault::Broken {
-            step: past.len() as u64 + 1,
-            action: place as u64 + 1,
-            rule,
-        });
-    }
-    if let Some(first) = first_shared(scene.trap, &step[..place], action) {
-        return Err(PlayFault::Shared {
-            step: past.len() as u64 + 1,
-            first: first as u64 + 1,
-            second: place as u64 + 1,
-        });
-    }
-    match *action {
-        Action::Op { op, .. } => slow_judge_op(scene, past, &step[..place], op),
-        _ => Ok(()),
-    }
-}
-
-fn slow_judge_step(
-    scene: &Scene,
-    config: &Config,
-    past: &[Step],
-    step: &[Action],
-) -> Result<(), PlayFault>
-    requires config { IsConfigOf scene.now.trap.now config.now }
-    requires stands { config.now.lists ≡ config_at (setting_of scene.now.trap.now scene.now.circuit.now scene.now.placement.now) (behind past.now []) }
-    ensures well { IfOk result (λ _. StepIsWell (setting_of scene.now.trap.now scene.now.circuit.now scene.now.placement.now) past.now step.now) }
-    ensures fault { IfErr result (ExplainsStep (setting_of scene.now.trap.now scene.now.circuit.now scene.now.placement.now) past.now step.now) }
-{
-    for place in 0..step.len() {
-        slow_judge(scene, config, past, step, place)?;
-    }
-    Ok(())
-}
-
-fn apply_all(trap: &Trap, config: &mut Config, step: &[Action])
-    requires config { IsConfigOf trap.now config.old }
-    requires legal { MayBeTaken trap.now config.old.lists step.now }
-    ensures lists { config.new.lists ≡ after_step trap.now config.old.lists step.now }
-    ensures config { IsConfigOf trap.now config.new }
-{
-    for action in step {
-        config.apply(trap, action);
-    }
-}
-
-// The least operation that no action performs.
-fn first_missing(circuit: &Circuit, steps: &[Step]) -> Option<OpId>
-    ensures { MatchOption result ((op : ℕ) → IsTrue (is_performed circuit.now op) → is_done steps.now op ≡ true)
-        (λ op. IsFirstUndone circuit.now steps.now op.0) }
-{
-    for number in 0..circuit.ops().len() as u32 {
-        let op = OpId(number);
-        if has_action(circuit, op) && !is_done_by(steps, op) {
-            return Some(op);
-        }
-    }
-    None
-}
-
-// Plays a schedule as the rules say it: for each action it looks through all earlier steps and all operations.
-fn slow_play(
-    alloc: Global,
-    trap: &Trap,
-    circuit: &Circuit,
-    placement: &Placement,
-    schedule: &Schedule,
-) -> Result<Config, PlayFault>
-    requires { IsPlacement trap.now circuit.now placement.now }
-    ensures plays { IfOk result (λ _. Plays (setting_of trap.now circuit.now placement.now) schedule.now) }
-    ensures last { IfOk result (λ config. config.lists ≡ after_steps trap.now (start_of trap.now placement.now) schedule.now) }
-    ensures config { IfOk result (IsConfigOf trap.now) }
-    ensures fault { IfErr result (Explains (setting_of trap.now circuit.now placement.now) schedule.now) }
-{
-    let scene = Scene {
-        trap,
-        circuit,
-        placement,
-    };
-    let mut config = Config::start(alloc, trap, placement)?;
-    let steps = schedule.steps();
-    for (time, step) in steps.iter().enumerate() {
-        let actions = step.actions();
-        slow_judge_step(&scene, &config, &steps[..time], actions)?;
-        apply_all(trap, &mut config, actions);
-    }
-    match first_missing(circuit, steps) {
-        Some(op) => Err(PlayFault::Missing { op }),
-        None => Ok(config),
-    }
 }
 
 // ---- both simulators
@@ -692,27 +381,14 @@ fn same_verdicts(
 #[test]
 fn schedules_that_play(rt: HostRuntime) -> Result<(), Fail> {
     let alloc = rt.alloc();
-    let trap = line(&rt, alloc, 2)?;
-    plays(&rt, alloc, &trap, &[], &[], &[&[0, 1], &[2, 3], &[], &[]])?;
+    let trap = line(alloc, 1, 2)?;
+    let start: [&[u32]; 4] = [&[0, 1], &[2, 3], &[], &[]];
+    plays(&rt, alloc, &trap, &[], &[], &start)?;
     let back: [&[Action]; 3] = [&[op(0, 0)], &[split(0, End::B, 1)], &[merge(0, End::B)]];
-    plays(
-        &rt,
-        alloc,
-        &trap,
-        &[(0, 1)],
-        &back,
-        &[&[0, 1], &[2, 3], &[], &[]],
-    )?;
+    plays(&rt, alloc, &trap, &[(0, 1)], &back, &start)?;
     let side: [&[Action]; 2] = [&[op(1, 1), op(0, 0)], &[op(0, 2)]];
     let pairs = [(0, 1), (2, 3), (1, 0)];
-    plays(
-        &rt,
-        alloc,
-        &trap,
-        &pairs,
-        &side,
-        &[&[0, 1], &[2, 3], &[], &[]],
-    )?;
+    plays(&rt, alloc, &trap, &pairs, &side, &start)?;
     let over: [&[Action]; 5] = [
         &[op(0, 0)],
         &[split(0, End::B, 1)],
@@ -721,37 +397,25 @@ fn schedules_that_play(rt: HostRuntime) -> Result<(), Fail> {
         &[op(1, 1)],
     ];
     let pairs = [(0, 1), (1, 2)];
-    plays(
-        &rt,
-        alloc,
-        &trap,
-        &pairs,
-        &over,
-        &[&[0], &[1, 2, 3], &[], &[]],
-    )
+    let end: [&[u32]; 4] = [&[0], &[1, 2, 3], &[], &[]];
+    plays(&rt, alloc, &trap, &pairs, &over, &end)
 }
 
 #[test]
 fn broken_rules(rt: HostRuntime) -> Result<(), Fail> {
     let alloc = rt.alloc();
-    let trap = line(&rt, alloc, 2)?;
+    let trap = line(alloc, 1, 2)?;
     let full: [&[Action]; 3] = [&[split(1, End::A, 2)], &[cross(3, 2)], &[merge(0, End::B)]];
     stops(&rt, alloc, &trap, &[], &full, broken(3, 1, Rule::Full))?;
     let none: [&[Action]; 1] = [&[split(0, End::B, 0)]];
     stops(&rt, alloc, &trap, &[], &none, broken(1, 1, Rule::Index))?;
     let three: [&[Action]; 1] = [&[op(1, 0), split(0, End::B, 3)]];
-    stops(
-        &rt,
-        alloc,
-        &trap,
-        &[(2, 3)],
-        &three,
-        broken(1, 2, Rule::Index),
-    )?;
-    let narrow = line(&rt, alloc, 1)?;
+    let index = broken(1, 2, Rule::Index);
+    stops(&rt, alloc, &trap, &[(2, 3)], &three, index)?;
+    let narrow = line(alloc, 1, 1)?;
     let two: [&[Action]; 1] = [&[split(0, End::B, 2)]];
     stops(&rt, alloc, &narrow, &[], &two, broken(1, 1, Rule::Load))?;
-    let row = row(&rt, alloc)?;
+    let row = line(alloc, 3, 2)?;
     let chain: [&[Action]; 4] = [
         &[split(0, End::B, 1)],
         &[goes(2, 3)],
@@ -764,7 +428,7 @@ fn broken_rules(rt: HostRuntime) -> Result<(), Fail> {
 #[test]
 fn shared_in_a_step(rt: HostRuntime) -> Result<(), Fail> {
     let alloc = rt.alloc();
-    let trap = star(&rt, alloc)?;
+    let trap = star(alloc)?;
     let crossings: [&[Action]; 2] = [
         &[split(0, End::B, 1), split(1, End::B, 1)],
         &[cross(2, 4), cross(3, 5)],
@@ -781,20 +445,14 @@ fn shared_in_a_step(rt: HostRuntime) -> Result<(), Fail> {
         first: 2,
         second: 3,
     };
-    stops(
-        &rt,
-        alloc,
-        &trap,
-        &[(0, 1), (2, 3), (1, 0)],
-        &thrice,
-        shared,
-    )
+    let pairs = [(0, 1), (2, 3), (1, 0)];
+    stops(&rt, alloc, &trap, &pairs, &thrice, shared)
 }
 
 #[test]
 fn operations_out_of_order(rt: HostRuntime) -> Result<(), Fail> {
     let alloc = rt.alloc();
-    let trap = line(&rt, alloc, 2)?;
+    let trap = line(alloc, 1, 2)?;
     let pairs = [(2, 3), (0, 1), (1, 0), (0, 1), (3, 2)];
     let early: [&[Action]; 1] = [&[op(1, 0), op(0, 3)]];
     let fault = PlayFault::Early {
@@ -824,7 +482,7 @@ fn operations_out_of_order(rt: HostRuntime) -> Result<(), Fail> {
 #[test]
 fn both_simulators(rt: HostRuntime) -> Result<(), Fail> {
     let alloc = rt.alloc();
-    let trap = line(&rt, alloc, 2)?;
+    let trap = line(alloc, 1, 2)?;
     let over: [&[Action]; 7] = [
         &[op(0, 0), op(1, 2)],
         &[split(0, End::B, 1)],
@@ -836,7 +494,7 @@ fn both_simulators(rt: HostRuntime) -> Result<(), Fail> {
     ];
     let pairs = [(0, 1), (1, 2), (3, 2), (2, 1), (3, 1)];
     same_verdicts(&rt, alloc, &trap, &pairs, &over)?;
-    let row = row(&rt, alloc)?;
+    let row = line(alloc, 3, 2)?;
     let chain: [&[Action]; 6] = [
         &[split(0, End::B, 1)],
         &[goes(2, 3), op(1, 0)],
@@ -846,7 +504,7 @@ fn both_simulators(rt: HostRuntime) -> Result<(), Fail> {
         &[op(1, 2)],
     ];
     same_verdicts(&rt, alloc, &row, &[(2, 3), (3, 2), (2, 3)], &chain)?;
-    let star = star(&rt, alloc)?;
+    let star = star(alloc)?;
     let crossings: [&[Action]; 4] = [
         &[split(0, End::B, 1), split(1, End::B, 1)],
         &[cross(2, 4)],

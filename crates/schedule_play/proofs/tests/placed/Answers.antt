@@ -12,11 +12,13 @@ two_lists P a b lists is in_a in_b =
 
 pub new-requires-clause-qubits : goal.new-requires-clause-qubits
 new-requires-clause-qubits g c k d h =
-    let first : List Qubit = c.in_ok-first.first in
-    let second : List Qubit = c.in_ok-second.second in
+    let first : List Qubit = c.from_vec-first.result in
+    let second : List Qubit = c.from_vec-second.result in
     let P : Qubit → Type 0 = λ q. q.0 < c.qubits-count.result in
     let in_first : All P first = subst (All P) c.items.ensures (c.are_below.ensures (search rules)) in
     let in_second : All P second = subst (All P) c.items-2.ensures (c.are_below-2.ensures (search rules)) in
+    let one : c.push.new.self.items ≡ first ∷ [] =
+    ◌∙◌ {A = List (List Qubit)} c.in_ok-push.ensures.items (ap (λ (l : List (List Qubit)). l ++ first ∷ []) c.new-lists.ensures.items) in
     let is : c.push-2.new.self.items ≡ first ∷ second ∷ [] =
-    c.in_ok-push-2.ensures.items ∙ ap (λ (l : List (List Qubit)). l ++ second ∷ []) (c.in_ok-push.ensures.items ∙ ap (λ (l : List (List Qubit)). l ++ first ∷ []) c.new-lists.ensures.items) in
+    ◌∙◌ {A = List (List Qubit)} c.in_ok-push-2.ensures.items (ap (λ (l : List (List Qubit)). l ++ second ∷ []) one) in
     omega (arith, two_lists P first second c.push-2.new.self.items is in_first in_second k d h, c.qubits-count.ensures)

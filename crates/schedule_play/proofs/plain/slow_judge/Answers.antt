@@ -3,8 +3,8 @@ use Rattle.std.proofs.lemmas.Option.{get_or_from_slice_get}
 use Rattle.step_rules.specs.declared.action.Action.{Action}
 use Rattle.step_rules.specs.Setting.{Setting, setting_of}
 use Rattle.schedule_play.specs.Faults.{behind}
-use Rattle.schedule_play.proofs.Plain.{fits_here, goes_other, judged_here}
-use Rattle.schedule_play.proofs.tests.slow_judge.Goals as goal
+use Rattle.schedule_play.proofs.PlainJudged.{fits_here, goes_other, judged_here}
+use Rattle.schedule_play.proofs.plain.slow_judge.Goals as goal
 
 pub returns-in-Op : goal.returns-in-Op
 returns-in-Op c = record {

@@ -1,7 +1,7 @@
 use Rattle.std.proofs.Common.{List, get_or, sym, ap, ◌∙◌}
 use Rattle.step_rules.specs.declared.action.Action.{Action}
-use Rattle.schedule_play.proofs.Plain.{done_here}
-use Rattle.schedule_play.proofs.tests.is_done_by.Goals as goal
+use Rattle.schedule_play.proofs.PlainJudged.{done_here}
+use Rattle.schedule_play.proofs.plain.is_done_by.Goals as goal
 
 pub returns-then-some_does : goal.returns-then-some_does
 returns-then-some_does c =

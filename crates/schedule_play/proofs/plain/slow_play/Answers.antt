@@ -7,8 +7,8 @@ use Rattle.step_rules.specs.Setting.{Setting, setting_of}
 use Rattle.schedule_play.specs.Faults.{is_done}
 use Rattle.schedule_play.specs.Progress.{StepIsWell, ExplainsStep}
 use Rattle.schedule_play.proofs.Played.{explained, may_be_taken}
-use Rattle.schedule_play.proofs.Plain.{well_next, config_next, plays_whole, lacks_whole}
-use Rattle.schedule_play.proofs.tests.slow_play.Goals as goal
+use Rattle.schedule_play.proofs.PlainJudged.{well_next, config_next, plays_whole, lacks_whole}
+use Rattle.schedule_play.proofs.plain.slow_play.Goals as goal
 
 pub returns-in_err-slow_judge_step-clause-fault : goal.returns-in_err-slow_judge_step-clause-fault
 returns-in_err-slow_judge_step-clause-fault c =

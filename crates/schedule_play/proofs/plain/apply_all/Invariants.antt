@@ -1,7 +1,7 @@
 use Rattle.std.proofs.Common.{◌≡◌, take}
 use Rattle.step_rules.specs.Steps.{after_step}
 use Rattle.step_rules.specs.Config.{IsConfigOf}
-use Rattle.schedule_play.proofs.tests.apply_all.Given as goal
+use Rattle.schedule_play.proofs.plain.apply_all.Given as goal
 
 abbrev pub invariant-loop-action : goal.invariant-loop-action
 invariant-loop-action l = record {

@@ -2,8 +2,8 @@ use Rattle.std.proofs.Common.{refl}
 use Rattle.std.proofs.lemmas.Result.{err_from_is_err_and}
 use Rattle.step_rules.specs.Setting.{Setting, setting_of}
 use Rattle.schedule_play.proofs.Stepped.{explained_step, all_well}
-use Rattle.schedule_play.proofs.Plain.{well_more}
-use Rattle.schedule_play.proofs.tests.slow_judge_step.Goals as goal
+use Rattle.schedule_play.proofs.PlainJudged.{well_more}
+use Rattle.schedule_play.proofs.plain.slow_judge_step.Goals as goal
 
 pub returns-in_err-slow_judge-clause-fault : goal.returns-in_err-slow_judge-clause-fault
 returns-in_err-slow_judge-clause-fault c =

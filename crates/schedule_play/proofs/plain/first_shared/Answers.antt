@@ -1,5 +1,5 @@
-use Rattle.schedule_play.proofs.Plain.{meets_here, apart_more, apart_all}
-use Rattle.schedule_play.proofs.tests.first_shared.Goals as goal
+use Rattle.schedule_play.proofs.PlainJudged.{meets_here, apart_more, apart_all}
+use Rattle.schedule_play.proofs.plain.first_shared.Goals as goal
 
 pub returns-then-meets : goal.returns-then-meets
 returns-then-meets c =

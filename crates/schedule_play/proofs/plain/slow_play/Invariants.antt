@@ -2,7 +2,7 @@ use Rattle.std.proofs.Common.{◌≡◌, [], take}
 use Rattle.step_rules.specs.Setting.{setting_of}
 use Rattle.step_rules.specs.Config.{IsConfigOf}
 use Rattle.schedule_play.specs.Faults.{behind, config_at, GoWell}
-use Rattle.schedule_play.proofs.tests.slow_play.Given as goal
+use Rattle.schedule_play.proofs.plain.slow_play.Given as goal
 
 abbrev pub invariant-loop-time : goal.invariant-loop-time
 invariant-loop-time l = record {
