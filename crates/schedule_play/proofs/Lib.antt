@@ -9,3 +9,4 @@ pub mod Stepped
 pub mod Played
 pub mod Verdicts
 pub mod PlainJudged
+pub mod Deciding

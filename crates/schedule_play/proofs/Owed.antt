@@ -10,7 +10,7 @@ use Rattle.schedule_play.specs.declared.nearest.Nearest.{Nearest}
 use Rattle.schedule_play.specs.Nearest.{AreNearestOf, AreNearest}
 use Rattle.schedule_play.specs.Progress.{IsOwed, IsClosed}
 
-abbrev numbered : ℕ → OpId
+abbrev pub numbered : ℕ → OpId
 numbered number = record { 0 = number }
 
 pub forced_within : (circuit : Parts) (i j : ℕ) → Forced circuit i j → i < length circuit.ops

@@ -30,7 +30,7 @@ use Rattle.schedule_play.proofs.Judged.{op_performed, performed_within}
 
 -- ---- the steps are legal
 
-at_seam : {X : Type 0} (xs rest : List X) (x : X) → slice_get (xs ++ x ∷ rest) (length xs) ≡ Some x
+pub at_seam : {X : Type 0} (xs rest : List X) (x : X) → slice_get (xs ++ x ∷ rest) (length xs) ≡ Some x
 at_seam [] rest x = refl
 at_seam (y ∷ ys) rest x = at_seam ys rest x
 
@@ -217,7 +217,7 @@ stands_next setting schedule time d given places places_now early marks early_no
 
 -- ---- a fault
 
-step_stops : (setting : Setting) (schedule : List (List Action)) (time : ℕ) (step : List Action) (fault : PlayFault) → slice_get schedule time ≡ Some step → GoWell setting (take time schedule) → StepStops setting (take time schedule) step fault → Stops setting schedule fault
+pub step_stops : (setting : Setting) (schedule : List (List Action)) (time : ℕ) (step : List Action) (fault : PlayFault) → slice_get schedule time ≡ Some step → GoWell setting (take time schedule) → StepStops setting (take time schedule) step fault → Stops setting schedule fault
 step_stops setting schedule time step fault at go stops = record {
   time = time;
   place = stops.place;

@@ -1,5 +1,5 @@
 -- The first fault of a schedule.
-use Rattle.std.specs.Prelude.{◌≡◌, ℕ, ◌+◌, ◌<◌, ◌≤◌, Bool, true, false, IsTrue, List, [], ◌∷◌, ◌++◌, length, take, All, Some, slice_get, fold}
+use Rattle.std.specs.Prelude.{◌≡◌, ℕ, ◌+◌, ◌<◌, ◌≤◌, Bool, true, false, IsTrue, List, [], ◌∷◌, ◌++◌, length, take, All, Some, slice_get, fold, ◌⊎◌}
 use Rattle.std.specs.List.{list_any}
 use Rattle.qc_base.specs.declared.ids.Ion.{Ion}
 use Rattle.trap_model.specs.Trap.{Lists}
@@ -10,7 +10,7 @@ use Rattle.step_rules.specs.Setting.{Setting}
 use Rattle.step_rules.specs.Tests.{Passes, tests, first_broken, is_performed}
 use Rattle.step_rules.specs.Tight.{Meet}
 use Rattle.step_rules.specs.Steps.{AreApart, after_step}
-use Rattle.step_rules.specs.Play.{performs, actions_of}
+use Rattle.step_rules.specs.Play.{performs, actions_of, Plays}
 use Rattle.schedule_play.specs.declared.fault.PlayFault.{PlayFault}
 use Rattle.schedule_play.specs.declared.fault.PlayFault.TheVariants as faults
 
@@ -120,3 +120,7 @@ IsFault setting steps fault = Stops setting steps fault
 abbrev pub Explains : Setting → List (List Action) → PlayFault → Type 0
 Explains setting steps faults.NoMemory = Unit {0}
 Explains setting steps fault = IsFault setting steps fault
+
+-- the schedule plays, or it has a fault
+abbrev pub IsJudged : Setting → List (List Action) → Type 0
+IsJudged setting steps = Plays setting steps ⊎ ((fault : PlayFault) × IsFault setting steps fault)

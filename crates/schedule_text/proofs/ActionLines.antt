@@ -76,7 +76,7 @@ one_swap trap zone other index number rest more t hz ho hi hn e =
     (cc, words.2)
 
 one_op : (setting : Setting) (a b : ℕ) (rest more : List ℕ) → IsCircuit setting.circuit → a < length setting.circuit.ops → b < length setting.circuit.ops
-    → at (op_line setting a) setting.circuit.ops a ++ rest ≡ at (op_line setting b) setting.circuit.ops b ++ more → (a ≡ b) × (rest ≡ more)
+    → at (op_line setting.circuit setting.placement a) setting.circuit.ops a ++ rest ≡ at (op_line setting.circuit setting.placement b) setting.circuit.ops b ++ more → (a ≡ b) × (rest ≡ more)
 one_op setting a b rest more c ha hb e =
     let first = op_at setting a ha in
     let second = op_at setting b hb in
@@ -87,15 +87,15 @@ one_op setting a b rest more c ha hb e =
     decimal_injective a b fits also
     (number_first (decimal a) (decimal b) (ion_words setting.placement first.op) (ion_words setting.placement second.op) (op_text setting.circuit first.op) (op_text setting.circuit second.op) rest more
     (free_decimal 32 a space_sign fits) (free_decimal 32 b space_sign also) printed) in
-    let behind = e ∙ ap (λ (k : ℕ). at (op_line setting k) setting.circuit.ops k ++ more) (sym number) in
-    (number, same_rest (at (op_line setting a) setting.circuit.ops a) rest more behind)
+    let behind = e ∙ ap (λ (k : ℕ). at (op_line setting.circuit setting.placement k) setting.circuit.ops k ++ more) (sym number) in
+    (number, same_rest (at (op_line setting.circuit setting.placement a) setting.circuit.ops a) rest more behind)
 
 pub one_performed : (setting : Setting) (zone other : PlaceId) (op also : OpId) (rest more : List ℕ) → IsTrap setting.trap → IsCircuit setting.circuit
     → zone.0 < place_count setting.trap → other.0 < place_count setting.trap → op.0 < length setting.circuit.ops → also.0 < length setting.circuit.ops
     → performed_line setting zone.0 op.0 ++ rest ≡ performed_line setting other.0 also.0 ++ more → (actions.Op zone op ≡ actions.Op other also) × (rest ≡ more)
 one_performed setting zone other op also rest more t c hz ho hp ha e =
     let words =
-    one_word (place_text setting.trap zone.0) (place_text setting.trap other.0) (at (op_line setting op.0) setting.circuit.ops op.0) (at (op_line setting also.0) setting.circuit.ops also.0) rest more
+    one_word (place_text setting.trap zone.0) (place_text setting.trap other.0) (at (op_line setting.circuit setting.placement op.0) setting.circuit.ops op.0) (at (op_line setting.circuit setting.placement also.0) setting.circuit.ops also.0) rest more
     (place_free setting.trap zone.0 32 t hz space) (place_free setting.trap other.0 32 t ho space) (same_rest (codes "op ") _ _ e) in
     let numbers = one_op setting op.0 also.0 rest more c hp ha words.1 in
     let place : zone ≡ other = place_is setting.trap zone other t hz ho words.0 in

@@ -70,7 +70,7 @@ small_number number h = omega arith
 pub record IsOpAt (setting : Setting) (number : ℕ) : Type 0 where
   pub op : Op
   pub there : slice_get setting.circuit.ops number ≡ Some op
-  pub line_is : at (op_line setting number) setting.circuit.ops number ≡ op_line setting number op
+  pub line_is : at (op_line setting.circuit setting.placement number) setting.circuit.ops number ≡ op_line setting.circuit setting.placement number op
 
 op_there : (ops : List Op) (number : ℕ) → number < length ops → (op : Op) × (slice_get ops number ≡ Some op)
 op_there [] number h = absurd (omega arith)

@@ -17,15 +17,15 @@ pub record BeginsOp (setting : Setting) (zone number : ℕ) (rest bytes : List �
   pub op : Op
   pub is : slice_get setting.circuit.ops number ≡ Some op
   pub more : List ℕ
-  pub parts : bytes ≡ codes "op " ++ place_text setting.trap zone ++ codes " " ++ (op_line setting number op ++ rest)
-  pub line : op_line setting number op ++ rest ≡ decimal number ++ 32 ∷ more
+  pub parts : bytes ≡ codes "op " ++ place_text setting.trap zone ++ codes " " ++ (op_line setting.circuit setting.placement number op ++ rest)
+  pub line : op_line setting.circuit setting.placement number op ++ rest ≡ decimal number ++ 32 ∷ more
 
 op_parts : (setting : Setting) (zone number : ℕ) (op : Op) (rest bytes : List ℕ) → slice_get setting.circuit.ops number ≡ Some op → bytes ≡ performed_line setting zone number ++ rest
-    → bytes ≡ codes "op " ++ place_text setting.trap zone ++ codes " " ++ (op_line setting number op ++ rest)
-op_parts setting zone number op rest bytes is e = e ∙ rw is (append_assoc (codes "op " ++ place_text setting.trap zone ++ codes " ") (op_line setting number op) rest)
+    → bytes ≡ codes "op " ++ place_text setting.trap zone ++ codes " " ++ (op_line setting.circuit setting.placement number op ++ rest)
+op_parts setting zone number op rest bytes is e = e ∙ rw is (append_assoc (codes "op " ++ place_text setting.trap zone ++ codes " ") (op_line setting.circuit setting.placement number op) rest)
 
 op_line_number : (setting : Setting) (number : ℕ) (op : Op) (rest : List ℕ)
-    → op_line setting number op ++ rest ≡ decimal number ++ 32 ∷ (codes "ions" ++ (ion_words setting.placement op ++ (codes " : " ++ (op_text setting.circuit op ++ (codes "\n" ++ rest)))))
+    → op_line setting.circuit setting.placement number op ++ rest ≡ decimal number ++ 32 ∷ (codes "ions" ++ (ion_words setting.placement op ++ (codes " : " ++ (op_text setting.circuit op ++ (codes "\n" ++ rest)))))
 op_line_number setting number op rest = simp append_assoc
 
 pub begins_op : (setting : Setting) (zone number : ℕ) (rest bytes : List ℕ) → number < length setting.circuit.ops → bytes ≡ performed_line setting zone number ++ rest → BeginsOp setting zone number rest bytes
@@ -43,7 +43,7 @@ begins_op setting zone number rest bytes h e =
 
 -- what was printed stands there
 pub same_op_line : (setting : Setting) (number other : ℕ) (op read : Op) (line text rest : List ℕ) → number ≡ other → slice_get setting.circuit.ops number ≡ Some op → slice_get setting.circuit.ops other ≡ Some read
-    → line ≡ op_line setting number op ++ rest → text ≡ op_line setting other read → line ≡ text ++ rest
+    → line ≡ op_line setting.circuit setting.placement number op ++ rest → text ≡ op_line setting.circuit setting.placement other read → line ≡ text ++ rest
 same_op_line setting number other op read line text rest e is was line_is text_is =
     let same : op ≡ read = same_Some op read (sym is ∙ ap (slice_get setting.circuit.ops) e ∙ was) in
     line_is ∙ rw (e, same, text_is) refl

@@ -39,9 +39,8 @@ abbrev pub ion_words : List (List Qubit) → Op → List ℕ
 ion_words placement op = flat_map (λ (qubit : Qubit). codes " " ++ decimal (ion_of placement qubit).0) (qubits_of op)
 
 -- the number of an operation, its ions and its text
-abbrev pub op_line : Setting → ℕ → Op → List ℕ
-op_line setting number op =
-    decimal number ++ codes " ions" ++ ion_words setting.placement op ++ codes " : " ++ op_text setting.circuit op ++ codes "\n"
+abbrev pub op_line : Parts → List (List Qubit) → ℕ → Op → List ℕ
+op_line circuit placement number op = decimal number ++ codes " ions" ++ ion_words placement op ++ codes " : " ++ op_text circuit op ++ codes "\n"
 
 -- an end, as it is written
 abbrev pub end_text : End → List ℕ
@@ -74,7 +73,7 @@ abbrev pub swap_line : Lists → ℕ → ℕ → List ℕ
 swap_line trap zone index = codes "swap " ++ place_text trap zone ++ codes " " ++ decimal index ++ codes "\n"
 
 abbrev pub performed_line : Setting → ℕ → ℕ → List ℕ
-performed_line setting zone op = codes "op " ++ place_text setting.trap zone ++ codes " " ++ at (op_line setting op) setting.circuit.ops op
+performed_line setting zone op = codes "op " ++ place_text setting.trap zone ++ codes " " ++ at (op_line setting.circuit setting.placement op) setting.circuit.ops op
 
 -- the line of an action
 abbrev pub action_line : Setting → Action → List ℕ

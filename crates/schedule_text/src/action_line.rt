@@ -153,7 +153,7 @@ fn read_op<'a>(
         return Ok(None);
     };
     let mut text = Vec::new(alloc);
-    push_op_line(&mut text, trap, circuit, placement, number, operation)?;
+    push_op_line(&mut text, circuit, placement, number, operation)?;
     match behind(line, text.as_slice()) {
         Some(rest) => Ok(Some(((zone, op), rest))),
         None => Ok(None),

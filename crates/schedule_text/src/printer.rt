@@ -147,15 +147,13 @@ fn push_ions(out: &mut Vec<u8>, placement: &Placement, op: &Op) -> Result<(), No
 /// The line of an operation from its number on.
 pub(crate) fn push_op_line(
     out: &mut Vec<u8>,
-    trap: &Trap,
     circuit: &Circuit,
     placement: &Placement,
     number: u32,
     op: &Op,
 ) -> Result<(), NoMemory>
-    ensures { OnOk result (out.new.items ≡ out.old.items ++ op_line (setting_of trap.now circuit.now placement.now) number op.now) }
+    ensures { OnOk result (out.new.items ≡ out.old.items ++ op_line circuit.now placement.now number op.now) }
 {
-    let _ = trap;
     push_number(out, number as u64)?;
     out.extend_from_slice(b" ions")?;
     push_ions(out, placement, op)?;
@@ -282,7 +280,7 @@ fn push_performed(
     trap.print_place(zone, out)?;
     out.extend_from_slice(b" ")?;
     if let Some(operation) = circuit.op(op) {
-        push_op_line(out, trap, circuit, placement, op.0, operation)?;
+        push_op_line(out, circuit, placement, op.0, operation)?;
     }
     Ok(())
 }

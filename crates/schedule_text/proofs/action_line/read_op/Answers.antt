@@ -10,14 +10,14 @@ returns-in_default-clause-only c = λ zone op rest h there e.
     let setting = setting_of c.args.trap.now c.args.circuit.now c.args.placement.now in
     let b = begins_op setting zone op rest c.args.bytes.now there e in
     let small : op < 2 ^ 32 = omega (arith, there, c.requires.circuit.few) in
-    absurd (c.in_default.ensures.only zone op (op_line setting op b.op ++ rest) b.more h small b.parts b.line)
+    absurd (c.in_default.ensures.only zone op (op_line setting.circuit setting.placement op b.op ++ rest) b.more h small b.parts b.line)
 
 pub returns-in_default-op-clause-only : goal.returns-in_default-op-clause-only
 returns-in_default-op-clause-only c = λ zone op rest h there e.
     let setting = setting_of c.args.trap.now c.args.circuit.now c.args.placement.now in
     let b = begins_op setting zone op rest c.args.bytes.now there e in
     let small : op < 2 ^ 32 = omega (arith, there, c.requires.circuit.few) in
-    let read = c.in-Some.ensures.only zone op (op_line setting op b.op ++ rest) b.more h small b.parts b.line in
+    let read = c.in-Some.ensures.only zone op (op_line setting.circuit setting.placement op b.op ++ rest) b.more h small b.parts b.line in
     absurd (none-some b.op (c.in_default-op.ensures ∙ ap (slice_get c.args.circuit.now.ops) read.1 ∙ b.is))
 
 pub returns-in-Some-behind-clause-there : goal.returns-in-Some-behind-clause-there
@@ -28,8 +28,8 @@ returns-in-Some-behind-clause-only c = λ zone op rest h there e.
     let setting = setting_of c.args.trap.now c.args.circuit.now c.args.placement.now in
     let b = begins_op setting zone op rest c.args.bytes.now there e in
     let small : op < 2 ^ 32 = omega (arith, there, c.requires.circuit.few) in
-    let read = c.in-Some.ensures.only zone op (op_line setting op b.op ++ rest) b.more h small b.parts b.line in
-    let text = c.as_slice.ensures.value ∙ c.in_ok-push_op_line.ensures ∙ ap (λ (t : List ℕ). t ++ op_line setting c.in-Some.number c.in-Some-op.operation.now) c.new-text.ensures.items in
+    let read = c.in-Some.ensures.only zone op (op_line setting.circuit setting.placement op b.op ++ rest) b.more h small b.parts b.line in
+    let text = c.as_slice.ensures.value ∙ c.in_ok-push_op_line.ensures ∙ ap (λ (t : List ℕ). t ++ op_line setting.circuit setting.placement c.in-Some.number c.in-Some-op.operation.now) c.new-text.ensures.items in
     let stands = same_op_line setting op c.in-Some.number b.op c.in-Some-op.operation.now c.in-Some.line.now c.as_slice.result.now rest (sym read.1) b.is (sym c.in-Some-op.ensures) read.2 text in
     (read.0, read.1, c.in-Some-behind.ensures.only rest stands)
 
@@ -38,6 +38,6 @@ returns-clause-only c = λ zone op rest h there e.
     let setting = setting_of c.args.trap.now c.args.circuit.now c.args.placement.now in
     let b = begins_op setting zone op rest c.args.bytes.now there e in
     let small : op < 2 ^ 32 = omega (arith, there, c.requires.circuit.few) in
-    let read = c.in-Some.ensures.only zone op (op_line setting op b.op ++ rest) b.more h small b.parts b.line in
-    let text = c.as_slice.ensures.value ∙ c.in_ok-push_op_line.ensures ∙ ap (λ (t : List ℕ). t ++ op_line setting c.in-Some.number c.in-Some-op.operation.now) c.new-text.ensures.items in
+    let read = c.in-Some.ensures.only zone op (op_line setting.circuit setting.placement op b.op ++ rest) b.more h small b.parts b.line in
+    let text = c.as_slice.ensures.value ∙ c.in_ok-push_op_line.ensures ∙ ap (λ (t : List ℕ). t ++ op_line setting.circuit setting.placement c.in-Some.number c.in-Some-op.operation.now) c.new-text.ensures.items in
     absurd (c.in-None.ensures.only rest (same_op_line setting op c.in-Some.number b.op c.in-Some-op.operation.now c.in-Some.line.now c.as_slice.result.now rest (sym read.1) b.is (sym c.in-Some-op.ensures) read.2 text))
