@@ -1,3 +1,12 @@
-pub mod Meeting
-pub mod Wires
+pub mod Registers
+pub mod Commas
 pub mod Labels
+pub mod Wires
+pub mod Forcing
+pub mod Lists
+pub mod Flags
+pub mod Noted
+pub mod Latest
+pub mod RegisterLabels
+pub mod CircuitLabels
+pub mod Lines

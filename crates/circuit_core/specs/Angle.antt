@@ -1,5 +1,5 @@
--- The size of an angle and how it is written: negations and pairs in parentheses.
-use Rattle.std.specs.Prelude.{ℕ, ◌+◌, List, ◌++◌, codes}
+-- The size of an angle, how it is written (negations and pairs in parentheses), and its real literals.
+use Rattle.std.specs.Prelude.{ℕ, ◌+◌, List, [], ◌∷◌, ◌++◌, codes}
 use Rattle.std.specs.Fmt.{decimal}
 use Rattle.circuit_core.specs.declared.angle.Angle.{Angle, fold-Angle}
 use Rattle.circuit_core.specs.declared.angle.Angle.TheOpen.{Angle-F}
@@ -46,3 +46,15 @@ text_step (Angle-F.Fun f a) = word_of f ++ codes "(" ++ a ++ codes ")"
 -- how an angle is written
 abbrev pub text_of : Angle → List ℕ
 text_of = fold-Angle (List ℕ) text_step
+
+abbrev pub reals_step : Angle-F (List (List ℕ)) → List (List ℕ)
+reals_step (Angle-F.Real name) = name ∷ []
+reals_step (Angle-F.Int n) = []
+reals_step Angle-F.Pi = []
+reals_step (Angle-F.Neg a) = a
+reals_step (Angle-F.Bin op a b) = a ++ b
+reals_step (Angle-F.Fun f a) = a
+
+-- its real literals, in order
+abbrev pub reals_of : Angle → List (List ℕ)
+reals_of = fold-Angle (List (List ℕ)) reals_step

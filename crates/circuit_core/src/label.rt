@@ -1,23 +1,51 @@
-//! How qubits are written.
+//! How qubits and bits are written.
 
-ghost use Rattle.std.specs.Prelude.{◌≡◌, ◌++◌};
+ghost use Rattle.std.specs.Prelude.{◌≡◌, ◌++◌, OnOk};
 ghost use Rattle.std.specs.Option.{option_map};
 ghost use Rattle.std.specs.Str.{bytes_eq};
 ghost use Rattle.circuit_core.specs.Label.{index_text, label_in, labelled};
 
 use crate::circuit::{Circuit, Reg};
 use itoa::Buffer;
-use qc_base::{Qubit, behind};
+use qc_base::{NoMemory, Qubit};
+
+// Appends an index in brackets.
+fn push_index(out: &mut Vec<u8>, index: u32) -> Result<(), NoMemory>
+    ensures { OnOk result (out.new.items ≡ out.old.items ++ index_text index) }
+{
+    let mut buffer = Buffer::new();
+    out.extend_from_slice(b"[")?;
+    out.extend_from_slice(buffer.format(index).as_bytes())?;
+    out.extend_from_slice(b"]")?;
+    Ok(())
+}
+
+/// Appends the label of that number, counted through these registers: a register's name and the index in
+/// brackets. Where they have fewer it appends nothing.
+pub fn push_label(out: &mut Vec<u8>, regs: &[Reg], number: u32) -> Result<(), NoMemory>
+    ensures { OnOk result (out.new.items ≡ out.old.items ++ label_in regs.now number) }
+{
+    let mut index = number;
+    for reg in regs {
+        if index < reg.size {
+            out.extend_from_slice(reg.name.bytes())?;
+            push_index(out, index)?;
+            return Ok(());
+        }
+        index -= reg.size;
+    }
+    Ok(())
+}
 
 // Whether the text is that index in brackets.
 fn is_index(text: &[u8], index: u32) -> bool
     ensures { result ≡ bytes_eq (index_text index) text.now }
 {
     let mut buffer = Buffer::new();
-    let Some(rest) = behind(text, b"[") else {
+    let Some(rest) = text.strip_prefix(b"[") else {
         return false;
     };
-    match behind(rest, buffer.format(index).as_bytes()) {
+    match rest.strip_prefix(buffer.format(index).as_bytes()) {
         Some(rest) => rest == b"]".as_slice(),
         None => false,
     }
@@ -27,7 +55,7 @@ fn is_index(text: &[u8], index: u32) -> bool
 fn is_in_register(text: &[u8], reg: &Reg, index: u32) -> bool
     ensures { result ≡ bytes_eq (reg.now.name ++ index_text index) text.now }
 {
-    match behind(text, reg.name.bytes()) {
+    match text.strip_prefix(reg.name.bytes()) {
         Some(rest) => is_index(rest, index),
         None => false,
     }

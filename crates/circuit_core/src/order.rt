@@ -1,45 +1,46 @@
 //! Which operation has to come before which.
 
-ghost use Rattle.std.specs.Prelude.{◌≡◌, IsTrue, ◌↔◌, [], ◌∷◌};
-ghost use Rattle.std.specs.List.{list_any};
-ghost use Rattle.circuit_core.specs.Order.{wires, on_qubit, same_wire, share_wire, Share, Forced};
+ghost use Rattle.std.specs.Prelude.{◌≡◌, ℕ, All, IsTrue, ◌↔◌};
+ghost use Rattle.circuit_core.specs.Circuit.{CircuitValue, IsCircuit, IsOpOf};
+ghost use Rattle.circuit_core.specs.Order.{Share, Forced};
+ghost use Rattle.circuit_core.specs.Deciding.{share_wire as has_common_wire, is_forced, is_shared, comes_first as has_to_come_first};
 
+use crate::bits::share_bit;
 use crate::circuit::Circuit;
 use crate::op::Op;
-use qc_base::{OpId, Qubit};
+use crate::qubit_set::QubitSet;
+use qc_base::OpId;
 
-// The qubits that it acts on.
-fn operands(op: &Op) -> (Qubit, Qubit)
-    ensures { wires op.now ≡ on_qubit result.0.0 ∷ on_qubit result.1.0 ∷ [] }
+// Whether both act on one qubit or one bit.
+fn share_wire(circuit: &Circuit, first: &Op, second: &Op) -> bool
+    requires circuit { IsCircuit circuit.now }
+    requires first { IsOpOf circuit.now first.now }
+    requires second { IsOpOf circuit.now second.now }
+    ensures { result ≡ has_common_wire circuit.now first.now second.now }
 {
-    match op {
-        Op::Cx {
-            control,
-            target,
-            ..
-        } => (*control, *target),
-    }
+    let mut set = QubitSet::empty();
+    set.add(first);
+    set.meets(second) || share_bit(circuit, first, second)
 }
 
-// Whether it acts on the qubit.
-fn acts_on(op: &Op, qubit: Qubit) -> bool
-    ensures { result ≡ list_any (same_wire (on_qubit qubit.0)) (wires op.now) }
+// Whether the first has to come before the second, with these operations between them.
+fn comes_first(circuit: &Circuit, middle: &[Op], first: &Op, second: &Op) -> bool
+    requires circuit { IsCircuit circuit.now }
+    requires first { IsOpOf circuit.now first.now }
+    requires second { IsOpOf circuit.now second.now }
+    requires middle { All (IsOpOf circuit.now) middle.now }
+    ensures { result ≡ has_to_come_first circuit.now middle.now first.now second.now }
 {
-    let (control, target) = operands(op);
-    control.0 == qubit.0 || target.0 == qubit.0
-}
-
-// Whether both act on one wire.
-fn share_wire(first: &Op, second: &Op) -> bool
-    ensures { result ≡ share_wire first.now second.now }
-{
-    let (control, target) = operands(first);
-    acts_on(second, control) || acts_on(second, target)
+    let mut set = QubitSet::empty();
+    set.add(first);
+    set.reach(middle);
+    share_bit(circuit, first, second) || set.meets(second)
 }
 
 /// Whether the operations of these numbers share a wire. It takes no memory.
 pub fn shares(circuit: &Circuit, i: OpId, j: OpId) -> bool
-    ensures { IsTrue result ↔ Share circuit.now i.0 j.0 }
+    ensures wire { IsTrue result ↔ Share circuit.now i.0 j.0 }
+    ensures value { result ≡ is_shared circuit.now i.0 j.0 }
 {
     let Some(first) = circuit.op(i) else {
         return false;
@@ -47,12 +48,28 @@ pub fn shares(circuit: &Circuit, i: OpId, j: OpId) -> bool
     let Some(second) = circuit.op(j) else {
         return false;
     };
-    share_wire(first, second)
+    share_wire(circuit, first, second)
 }
 
-/// Whether the first operation has to come before the second. It takes no memory.
+/// Whether the first operation has to come before the second. It takes no memory, and as many looks as there are
+/// operations between the two.
 pub fn forced(circuit: &Circuit, i: OpId, j: OpId) -> bool
-    ensures { IsTrue result ↔ Forced circuit.now i.0 j.0 }
+    ensures order { IsTrue result ↔ Forced circuit.now i.0 j.0 }
+    ensures value { result ≡ is_forced circuit.now i.0 j.0 }
 {
-    i.0 < j.0 && shares(circuit, i, j)
+    if i.0 >= j.0 {
+        return false;
+    }
+    let ops = circuit.ops();
+    let (first, last) = (i.0 as usize, j.0 as usize);
+    if last >= ops.len() {
+        return false;
+    }
+    comes_first(circuit, &ops[first + 1..last], &ops[first], &ops[last])
 }
+
+/// What has to come before what is decided by a truth value.
+pub fn order_is_decided()
+    ensures shared { (circuit : CircuitValue) (i j : ℕ) → IsTrue (is_shared circuit i j) ↔ Share circuit i j }
+    ensures forced { (circuit : CircuitValue) (i j : ℕ) → IsTrue (is_forced circuit i j) ↔ Forced circuit i j }
+{}

@@ -1,10 +1,11 @@
-//! How angles are written.
+//! How angles, operations and labels are written.
 
-ghost use Rattle.std.specs.Prelude.{◌≤◌, IfOk};
+ghost use Rattle.std.specs.Prelude.{◌≡◌, ◌≤◌, [], ◌∷◌, IfOk};
 ghost use Rattle.circuit_core.specs.Angle.{nodes_of};
+ghost use Rattle.circuit_core.specs.Op.{HasSmallAngles};
 
-use crate::{Angle, BinOp, FunName};
-use qc_base::{Name, NoMemory};
+use crate::{Angle, Angles, BinOp, Circuit, Cond, FunName, Op, Qubits, Reg, push_label, push_op};
+use qc_base::{Bit, CregId, Items, Name, NoMemory, Qubit};
 use sqlite_items::Boxed;
 use std::alloc::Global;
 use std::process::Abort;
@@ -61,5 +62,147 @@ fn angles_are_written_with_all_parentheses(rt: HostRuntime) -> Result<(), Fail> 
 fn nodes_are_counted(rt: HostRuntime) -> Result<(), Fail> {
     assert!(rt; sine(rt.alloc())?.nodes() == 5);
     assert!(rt; product(rt.alloc())?.nodes() == 5);
+    Ok(())
+}
+
+fn reg_of(alloc: Global, name: &[u8], size: u32) -> Result<Reg, NoMemory>
+    ensures { IfOk result (λ reg. reg ≡ record { name = name.now; size = size }) }
+{
+    let name = Name::from_bytes(alloc, name)?;
+    Ok(Reg { name, size })
+}
+
+/// Registers q of two qubits, r of one and c of two bits.
+fn circuit_of(alloc: Global) -> Result<Circuit, NoMemory> {
+    let mut qregs = Vec::new(alloc);
+    qregs.push(reg_of(alloc, b"q", 2)?)?;
+    qregs.push(reg_of(alloc, b"r", 1)?)?;
+    let mut cregs = Vec::new(alloc);
+    cregs.push(reg_of(alloc, b"c", 2)?)?;
+    Ok(Circuit::new(qregs, cregs, Vec::new(alloc)))
+}
+
+/// Whether an operation is written so, and its copy for the circuit's copy too.
+fn is_op_written(
+    rt: &impl Abort,
+    alloc: Global,
+    circuit: &Circuit,
+    op: &Op,
+    text: (&[u8], &[u8]),
+) -> Result<(), Fail>
+    requires { HasSmallAngles op.now }
+{
+    let mut wanted = Vec::from_slice(alloc, text.0)?;
+    wanted.extend_from_slice(text.1)?;
+    let mut written = Vec::new(alloc);
+    push_op(&mut written, circuit, op)?;
+    assert!(rt; written.as_slice() == wanted.as_slice());
+    let mut copied = Vec::new(alloc);
+    push_op(&mut copied, &circuit.copy(alloc)?, &op.copy(alloc)?)?;
+    assert!(rt; copied.as_slice() == wanted.as_slice());
+    Ok(())
+}
+
+/// Whether an operation of each kind but a barrier is written with that condition.
+fn are_written(
+    rt: &impl Abort,
+    alloc: Global,
+    circuit: &Circuit,
+    cond: Option<Cond>,
+    front: &[u8],
+) -> Result<(), Fail> {
+    let u = Op::U {
+        theta: Angle::Pi,
+        phi: Angle::Int(0),
+        lambda: Angle::Real(Name::from_bytes(alloc, b".5")?),
+        qubit: Qubit(0),
+        cond,
+    };
+    is_op_written(rt, alloc, circuit, &u, (front, b"U(pi,0,.5) q[0];"))?;
+    let cx = Op::Cx {
+        control: Qubit(2),
+        target: Qubit(1),
+        cond,
+    };
+    is_op_written(rt, alloc, circuit, &cx, (front, b"CX r[0],q[1];"))?;
+    let opaque = Op::Opaque {
+        name: Name::from_bytes(alloc, b"ms")?,
+        params: angles(alloc)?,
+        first: Qubit(0),
+        second: Some(Qubit(2)),
+        cond,
+    };
+    is_op_written(rt, alloc, circuit, &opaque, (front, b"ms(pi,2) q[0],r[0];"))?;
+    let plain = Op::Opaque {
+        name: Name::from_bytes(alloc, b"idle")?,
+        params: Items::from_vec(Vec::new(alloc)),
+        first: Qubit(1),
+        second: None,
+        cond,
+    };
+    is_op_written(rt, alloc, circuit, &plain, (front, b"idle q[1];"))?;
+    let measure = Op::Measure {
+        qubit: Qubit(2),
+        bit: Bit(1),
+        cond,
+    };
+    is_op_written(
+        rt,
+        alloc,
+        circuit,
+        &measure,
+        (front, b"measure r[0] -> c[1];"),
+    )?;
+    let reset = Op::Reset {
+        qubit: Qubit(1),
+        cond,
+    };
+    is_op_written(rt, alloc, circuit, &reset, (front, b"reset q[1];"))
+}
+
+/// pi and 2.
+fn angles(alloc: Global) -> Result<Angles, NoMemory>
+    ensures { IfOk result (λ angles. angles ≡ Angle.Pi ∷ Angle.Int 2 ∷ []) }
+{
+    let mut angles = Vec::new(alloc);
+    angles.push(Angle::Pi)?;
+    angles.push(Angle::Int(2))?;
+    Ok(Items::from_vec(angles))
+}
+
+#[test]
+fn operations_are_written_with_their_conditions(rt: HostRuntime) -> Result<(), Fail> {
+    let alloc = rt.alloc();
+    let circuit = circuit_of(alloc)?;
+    are_written(&rt, alloc, &circuit, None, b"")?;
+    let cond = Cond {
+        creg: CregId(0),
+        value: 3,
+    };
+    are_written(&rt, alloc, &circuit, Some(cond), b"if(c==3) ")?;
+    let qubits: Qubits = Items::from_vec(vec![in alloc; Qubit(2), Qubit(0), Qubit(1)]?);
+    let barrier = Op::Barrier { qubits };
+    is_op_written(
+        &rt,
+        alloc,
+        &circuit,
+        &barrier,
+        (b"", b"barrier r[0],q[0],q[1];"),
+    )
+}
+
+#[test]
+fn labels_are_found_in_their_registers(rt: HostRuntime) -> Result<(), Fail> {
+    let circuit = circuit_of(rt.alloc())?;
+    let labels: [&[u8]; 3] = [b"q[0]", b"q[1]", b"r[0]"];
+    for (number, label) in (0..).zip(labels) {
+        let mut out = Vec::new(rt.alloc());
+        push_label(&mut out, circuit.qregs(), number)?;
+        assert!(rt; out.as_slice() == label);
+        assert!(rt; circuit.find(label) == Some(Qubit(number)));
+    }
+    for label in [b"q[2]".as_slice(), b"r[1]", b"q[00]", b"c[0]", b"q", b""] {
+        assert!(rt; circuit.find(label).is_none());
+    }
     Ok(())
 }

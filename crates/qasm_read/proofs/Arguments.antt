@@ -97,7 +97,7 @@ reads_formals = reads_pair (parameters name) (commas name) (without LeftParenthe
 
 -- ---- by the first token
 
--- what a reader took behind a token, with that token
+-- what a reader took after a token, with that token
 abbrev pub Behind : Token → Form → State → State → Type 0
 Behind t form st after = (p : PlacedToken) → p.token ≡ t → Took form (at (p ∷ st.placed) st.large) after
 

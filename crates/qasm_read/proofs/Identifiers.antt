@@ -9,7 +9,8 @@ use Rattle.circuit_core.specs.Identifier.{is_identifier, is_lower_case, is_word_
 use Rattle.qasm_tokens.specs.declared.token.Keyword.{Keyword}
 use Rattle.qasm_tokens.specs.declared.token.Keyword.TheVariants as word
 use Rattle.qasm_tokens.specs.Pieces.{is_word_byte}
-use Rattle.qasm_tokens.specs.TokenForms.{Each, IsWord}
+use Rattle.circuit_core.specs.Reals.{Each}
+use Rattle.qasm_tokens.specs.TokenForms.{IsWord}
 use Rattle.qasm_tokens.specs.TokenKinds.{IsIdentifier}
 use Rattle.qasm_tokens.specs.Tokens.{is_upper, keyword_of, upper_keyword, statement_keyword, angle_keyword}
 

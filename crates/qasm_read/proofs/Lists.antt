@@ -169,7 +169,7 @@ reads_commas F EndF f rf allows = record {
 pub reads_some : {X : Type 0} (F : X → Form) (EndF : List PlacedToken → Type 0) (f : Reader X) → Reads F EndF f → Allows EndF Comma → Allows (both EndF (without Comma)) RightParenthesis → Reads (λ xs. sign LeftParenthesis ▸ commas F xs ▸ sign RightParenthesis) anything (some_in_parentheses f)
 reads_some F EndF f rf allows ends = reads_behind LeftParenthesis (λ xs. commas F xs ▸ sign RightParenthesis) anything (closed RightParenthesis (commas_at f)) (reads_closed RightParenthesis (commas F) (both EndF (without Comma)) (commas_at f) (reads_commas F EndF f rf allows) ends)
 
--- what stands behind an opening parenthesis
+-- what comes after an opening parenthesis
 abbrev inner : {X : Type 0} → (X → Form) → List X → Form
 inner F [] = sign RightParenthesis
 inner F (x ∷ xs) = commas F (x ∷ xs) ▸ sign RightParenthesis

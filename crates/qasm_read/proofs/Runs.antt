@@ -133,7 +133,7 @@ wanted_function st mid after t f frames e s skipped = wanted_step st mid t (star
 pub wanted_unopened : (st mid : State) (t : Token) (f : FunName) (frames : List Frame) → next_at st ≡ Some (t, mid) → start_of t ≡ start.Function f → skip_at LeftParenthesis mid ≡ None → run st.placed (wanted frames) ≡ None
 wanted_unopened st mid t f frames e s skipped = wanted_step st mid t (start.Function f) frames e s ∙ open_none mid.placed mid.large f frames skipped
 
--- ---- behind an expression
+-- ---- after an expression
 
 abbrev pub closing : PlacedToken → List PlacedToken → List Frame × Option Tree → Outcome
 closing p rest x = elim x.0 [

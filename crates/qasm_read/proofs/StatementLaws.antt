@@ -199,7 +199,7 @@ condition_form {E} {End} {exp} re =
 closed_text : Reads (λ t. text t ▸ sign Semicolon) anything (closed Semicolon text_at)
 closed_text = reads_closed Semicolon text anything text_at reads_text (λ p rest e. tt)
 
--- what two readers do alike behind a token, they do alike with it
+-- what two readers do alike after a token, they do alike with it
 first_same : {X Y : Type 0} (t : Token) (B : Form) (in_token : Token → Reader X) (in_other : Token → Reader Y) (mk : X → Y) → ((st : State) → in_other t st ≡ made mk (in_token t) st) → (x : X) (large before : Option ℕ) (front rest : List PlacedToken) → (just (t ∷ []) ▸ B) large front → (next_at (at (front ++ rest) before) >>= λ y. in_token y.0 y.1) ≡ Some (x, at rest (option_or before large)) → (next_at (at (front ++ rest) before) >>= λ y. in_other y.0 y.1) ≡ Some (mk x, at rest (option_or before large))
 first_same {X} {Y} t B in_token in_other mk alike x large before front rest h e =
     let o = one_token t h.front h.first.1 in

@@ -85,7 +85,7 @@ one_header placed a b p q =
     let r : (tt, at a None) ≡ (tt, at b None) = some_is both in
     ap (λ (x : Unit {0} × State). x.1.placed) r
 
--- an answer behind a header
+-- an answer after a header
 abbrev Headed : List PlacedToken → Result (List Placed) QasmFault → Type 0
 Headed placed x = (behind : List PlacedToken) × Begins header None placed behind × AnswersBehind behind x
 

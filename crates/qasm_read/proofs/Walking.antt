@@ -211,7 +211,7 @@ got_here ts frames tree placed none s =
 abbrev atom_stood : (frames : List Frame) (tree : Option Tree) (ts : List Token) → Fits (there frames tree) ts → Stood frames tree ts
 atom_stood frames tree ts f = record { before = f.0; own = f.1; e = f.2; level = atom; stands = f.3; spells = f.4; tree_is = f.5; parts = f.6; weak = all_weak frames }
 
--- what is known of the tokens behind
+-- what is known of the tokens after
 abbrev Onward : List PlacedToken → Option Tree → List PlacedToken → Type 0
 Onward rest tree left = (mode : Mode) (ts : List Token) → Fits mode ts → run rest mode ≡ Some (tree, left) → Got ts rest tree left
 

@@ -24,7 +24,8 @@ use Rattle.qasm_read.specs.Forms.{Form, Then, ◌▸◌, tokens_of, place_of, ju
 use Rattle.qasm_read.specs.Forms as forms
 use Rattle.qasm_read.specs.Grammar.{Level, expression, term, factor, power, atom, Spells, real, whole, pi, named, applied, in_parentheses, negated, joined, an_atom, a_power, a_factor, a_term, sign_of, nodes_of, is_small, an_expression, index, argument, formals, some_expressions, body_item, qop, a_statement}
 use Rattle.qasm_read.specs.Program.{a_placed_statement, verdict, AnswersBehind, Answers, UnlessMemory}
-use Rattle.qasm_read.specs.WellFormed.{IsName, IsShortReal, names_step, names_of, reals_step, reals_of, IsExpression, IsArgument, AtLeastOne, IsBodyItem, IsOperation, IsWellFormed, AreWellFormed}
+use Rattle.circuit_core.specs.Reals.{IsShortReal}
+use Rattle.qasm_read.specs.WellFormed.{IsName, names_step, names_of, reals_step, reals_of, IsExpression, IsArgument, AtLeastOne, IsBodyItem, IsOperation, IsWellFormed, AreWellFormed}
 use Rattle.qasm_read.proofs.Changes.{none_parts}
 use Rattle.qasm_read.proofs.ExpressionLaws.{has_place}
 use Rattle.qasm_read.proofs.Identifiers.{is_name}

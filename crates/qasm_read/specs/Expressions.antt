@@ -19,7 +19,7 @@ use Rattle.qasm_read.specs.Trees.{leaf}
 use Rattle.qasm_read.specs.Frames.{strength_of, put_in, reduced}
 use Rattle.qasm_read.specs.Starts.{start_of, operator_of}
 
--- an expression is wanted; a parenthesis is wanted behind a function; an expression is there
+-- an expression is wanted; a parenthesis is wanted after a function; an expression is there
 pub data Mode : Type 0 where
   wanted : List Frame → Mode
   opening : FunName → List Frame → Mode
@@ -29,7 +29,7 @@ pub data Mode : Type 0 where
 abbrev pub at_end : List Frame × Option Tree → Option (Option Tree × List PlacedToken)
 at_end x = elim x.0 [ [] ↦ Some (x.1, []) | f ∷ frames ↦ None ]
 
--- the expression, and the tokens behind it
+-- the expression, and the tokens after it
 unfoldable pub run : List PlacedToken → Mode → Option (Option Tree × List PlacedToken)
 run [] (wanted frames) = None
 run [] (opening f frames) = None

@@ -67,7 +67,7 @@ abbrev pub each : {X : Type 0} → (X → Form) → List X → Form
 each F [] = just []
 each F (x ∷ xs) = F x ▸ each F xs
 
--- at least one, and each further one behind a comma
+-- at least one, and each further one after a comma
 abbrev pub commas : {X : Type 0} → (X → Form) → List X → Form
 commas F [] = λ large placed. ⊥
 commas F (x ∷ xs) = F x ▸ each (λ y. sign Comma ▸ F y) xs

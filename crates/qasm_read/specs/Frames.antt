@@ -15,7 +15,7 @@ strength_of Mul = 3
 strength_of Div = 3
 strength_of Pow = 5
 
--- how strongly a frame holds what stands behind it
+-- how strongly a frame holds what comes after it
 abbrev pub left_hold : BinOp → ℕ
 left_hold Add = 2
 left_hold Sub = 2

@@ -18,7 +18,7 @@ header = word OpenQasm ▸ real (codes "2.0") ▸ sign Semicolon
 abbrev pub a_placed_statement : Placed → Form
 a_placed_statement p large placed = a_statement an_expression p.statement large placed × (place_of placed ≡ Some p.at)
 
--- tokens that a form has, and what is left behind them
+-- tokens that a form has, and what is left after them
 pub record Begins (form : Form) (large : Option ℕ) (placed left : List PlacedToken) : Type 0 where
   pub front : List PlacedToken
   pub spelled : form large front
@@ -28,18 +28,18 @@ pub record Begins (form : Form) (large : Option ℕ) (placed left : List PlacedT
 abbrev pub NoStatementBegins : List PlacedToken → Type 0
 NoStatementBegins placed = (s : Statement) (large : Option ℕ) (left : List PlacedToken) → Begins (a_statement an_expression s) large placed left → ⊥
 
--- these statements begin the tokens, and no statement begins what is left behind them
+-- these statements begin the tokens, and no statement begins what is left after them
 pub record LongestRun (statements : List Placed) (large : Option ℕ) (placed left : List PlacedToken) : Type 0 where
   pub begins : Begins (each a_placed_statement statements) large placed left
   pub ended : NoStatementBegins left
 
--- What is said of a run: first that it has a large expression, then that no statement begins behind it.
+-- What is said of a run: first that it has a large expression, then that no statement begins after it.
 abbrev pub verdict : List Placed → Option ℕ → List PlacedToken → Result (List Placed) QasmFault
 verdict statements (Some at) left = Err (Large at)
 verdict statements None [] = Ok statements
 verdict statements None (p ∷ left) = Err (NoStatement p.at)
 
--- the answer to the tokens behind the header
+-- the answer to the tokens after the header
 abbrev pub AnswersBehind : List PlacedToken → Result (List Placed) QasmFault → Type 0
 AnswersBehind placed answer = (statements : List Placed) × (large : Option ℕ) × (left : List PlacedToken) × LongestRun statements large placed left × (answer ≡ verdict statements large left)
 

@@ -1,4 +1,4 @@
--- How the forms are read: for each form the value that is read at the front of the tokens, and the tokens behind it.
+-- How the forms are read: for each form the value that is read at the front of the tokens, and the tokens after it.
 use Rattle.std.specs.Prelude.{◌≡◌, ℕ, suc, zero, List, [], ◌∷◌, ◌++◌, length, Option, Some, None, Result, Ok, Err, Bool, true, false, cond, not, eqb, codes}
 use Rattle.std.specs.Str.{bytes_eq}
 use Rattle.qasm_read.specs.declared.arg.Arg.{Arg}

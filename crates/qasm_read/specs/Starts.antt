@@ -34,7 +34,7 @@ start_of (token.Sign Minus) = start.Frame frame.Minus
 start_of (token.Sign LeftParenthesis) = start.Frame frame.Parenthesis
 start_of other = start.Nothing
 
--- which operator a token is behind an expression
+-- which operator a token is after an expression
 abbrev pub operator_of : Token → Option BinOp
 operator_of (token.Sign Plus) = Some Add
 operator_of (token.Sign Minus) = Some Sub

@@ -1,6 +1,7 @@
 -- What holds of a statement that a text spells, beside its grammar: its names are identifiers, its reals are reals, and its expressions are small.
 use Rattle.std.specs.Prelude.{ℕ, ◌<◌, ◌≤◌, List, [], ◌∷◌, ◌++◌, length, All, IsTrue}
 use Rattle.circuit_core.specs.Identifier.{is_identifier}
+use Rattle.circuit_core.specs.Reals.{IsShortReal}
 use Rattle.qasm_read.specs.declared.arg.Arg.{Arg}
 use Rattle.qasm_read.specs.declared.body_item.BodyItem.{BodyItem}
 use Rattle.qasm_read.specs.declared.body_item.BodyItem.TheVariants as item
@@ -11,16 +12,11 @@ use Rattle.qasm_read.specs.declared.qop.Qop.TheVariants as operation
 use Rattle.qasm_read.specs.declared.statement.Placed.{Placed}
 use Rattle.qasm_read.specs.declared.statement.Statement.{Statement}
 use Rattle.qasm_read.specs.declared.statement.Statement.TheVariants as statement
-use Rattle.qasm_tokens.specs.TokenForms.{IsReal}
 use Rattle.qasm_read.specs.Grammar.{nodes_of}
 
 -- a name that a register, a gate or a formal may have
 abbrev pub IsName : List ℕ → Type 0
 IsName name = IsTrue (is_identifier name)
-
--- a real of at most 64 bytes
-abbrev pub IsShortReal : List ℕ → Type 0
-IsShortReal text = IsReal text × (length text ≤ 64)
 
 -- the names in an expression, from those in each of its parts
 abbrev pub names_step : Exp-F (List (List ℕ)) → List (List ℕ)

@@ -1,8 +1,8 @@
 //! What the body of a gate is made of.
 
-use crate::exps::Exps;
+use crate::exp::Exps;
 use crate::names::Names;
-use qc_base::Name;
+use qc_base::{Items, Name};
 
 /// An item of a gate's body. Its arguments are names of the gate's qubits.
 #[derive(Debug, Drop)]
@@ -24,3 +24,6 @@ pub enum BodyItem {
         args: Names,
     },
 }
+
+/// The items of a body, in order.
+pub type BodyItems = Items<BodyItem>;

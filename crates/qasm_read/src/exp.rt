@@ -1,7 +1,7 @@
 //! Expressions.
 
 use circuit_core::{BinOp, FunName};
-use qc_base::Name;
+use qc_base::{Items, Name};
 use sqlite_items::Boxed;
 
 /// An expression, as it is written, but for its parentheses.
@@ -15,3 +15,6 @@ pub enum Exp {
     Fun(FunName, Boxed<Exp>),
     Id(Name),
 }
+
+/// Expressions, in order.
+pub type Exps = Items<Exp>;

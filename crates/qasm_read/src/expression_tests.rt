@@ -95,7 +95,7 @@ fn malformed_expressions(rt: HostRuntime) -> Result<(), Fail> {
     Ok(())
 }
 
-/// The name `a` with so many of these before it and behind it.
+/// The name `a` with so many of these before it and after it.
 fn surrounded(
     alloc: Global,
     before: &[u8],

@@ -75,7 +75,7 @@ fn operand<T: TokenSource + Drop>(
     }
 }
 
-/// Reads on behind an operator.
+/// Reads on after an operator.
 fn further<T: TokenSource + Drop>(
     alloc: Global,
     op: BinOp,

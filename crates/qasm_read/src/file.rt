@@ -6,8 +6,8 @@ ghost use Rattle.qasm_read.specs.Read.{IsReading};
 ghost use Rattle.qasm_read.specs.WellFormed.{AreWellFormed};
 
 use crate::fault::QasmFault;
-use crate::program::Program;
 use crate::reader::read_program;
+use crate::statement::Program;
 use qasm_tokens::TextTokens;
 use std::alloc::Global;
 

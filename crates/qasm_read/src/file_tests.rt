@@ -5,7 +5,7 @@ use qc_base::NoMemory;
 use std::alloc::Global;
 use std::test::Fail;
 
-/// What a file's bytes, behind the line of the header, are read as.
+/// What a file's bytes, after the line of the header, are read as.
 fn file_fault(alloc: Global, text: &[u8]) -> Result<Option<QasmFault>, NoMemory> {
     let mut bytes = Vec::from_slice(alloc, b"OPENQASM 2.0;\n")?;
     bytes.extend_from_slice(text)?;

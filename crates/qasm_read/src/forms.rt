@@ -4,10 +4,9 @@ ghost use Rattle.std.specs.Prelude.{◌≡◌};
 ghost use Rattle.qasm_read.specs.Reading.{Gives, index_at, argument_at, commas_at, name_at, parameters_at, some_in_parentheses, within, formals_at};
 ghost use Rattle.qasm_read.specs.Expressions.{exp_at};
 
-use crate::arg::Arg;
-use crate::args::Args;
+use crate::arg::{Arg, Args};
+use crate::exp::Exps;
 use crate::expressions::expression;
-use crate::exps::Exps;
 use crate::names::Names;
 use crate::stop::Stop;
 use crate::tokens::Tokens;

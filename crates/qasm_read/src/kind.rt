@@ -17,7 +17,7 @@ impl Kind {
     ghost use Rattle.qasm_read.specs.Frames.{hold_of};
     ghost use Rattle.qasm_read.specs.Kinds.{frame_of};
 
-    /// How strongly it holds the expression behind it. A parenthesis holds it until it is closed.
+    /// How strongly it holds the expression after it. A parenthesis holds it until it is closed.
     pub fn hold(self) -> u32
         ensures { result ≡ hold_of (frame_of self None) }
     {

@@ -2,12 +2,9 @@
 #![tactic(auto)]
 
 mod arg;
-mod args;
 mod body_item;
-mod body_items;
 mod exp;
 mod expressions;
-mod exps;
 mod fault;
 mod file;
 mod forms;
@@ -17,7 +14,6 @@ mod kind;
 mod laws;
 mod names;
 mod operations;
-mod program;
 mod qop;
 mod reader;
 mod start;
@@ -27,20 +23,16 @@ mod stop;
 mod tokens;
 mod tree;
 
-pub use arg::Arg;
-pub use args::Args;
-pub use body_item::BodyItem;
-pub use body_items::BodyItems;
-pub use exp::Exp;
-pub use exps::Exps;
+pub use arg::{Arg, Args};
+pub use body_item::{BodyItem, BodyItems};
+pub use exp::{Exp, Exps};
 pub use fault::QasmFault;
 pub use file::read;
 pub use laws::{one_answer, one_reading, one_statement_begins};
 pub use names::Names;
-pub use program::Program;
 pub use qop::Qop;
 pub use reader::read_program;
-pub use statement::{Placed, Statement};
+pub use statement::{Placed, Program, Statement};
 
 #[cfg(test)]
 mod expression_tests;

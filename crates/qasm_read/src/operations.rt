@@ -4,8 +4,7 @@ ghost use Rattle.std.specs.Prelude.{◌≡◌};
 ghost use Rattle.qasm_read.specs.Reading.{Gives, universal_at, controlled_not_at, measure_at, reset_at, call_at, qop_in, qop_at, body_universal_at, body_controlled_not_at, body_barrier_at, body_call_at, body_item_at, body_at};
 ghost use Rattle.qasm_read.specs.Expressions.{exp_at};
 
-use crate::body_item::BodyItem;
-use crate::body_items::BodyItems;
+use crate::body_item::{BodyItem, BodyItems};
 use crate::forms::{actuals, argument, arguments, names, some_actuals};
 use crate::qop::Qop;
 use crate::stop::Stop;
@@ -14,7 +13,7 @@ use qasm_tokens::{Keyword, Sign, Token, TokenSource};
 use qc_base::Name;
 use std::alloc::Global;
 
-/// Reads an operation behind its first token.
+/// Reads an operation after its first token.
 pub fn operation_from<T: TokenSource + Drop>(
     alloc: Global,
     first: Token,

@@ -1,8 +1,7 @@
 //! Quantum operations.
 
-use crate::arg::Arg;
-use crate::args::Args;
-use crate::exps::Exps;
+use crate::arg::{Arg, Args};
+use crate::exp::Exps;
 use qc_base::Name;
 
 /// An operation on registers.

@@ -5,8 +5,7 @@ ghost use Rattle.qasm_read.specs.Reading.{Gives, opening_at, version_at, header_
 ghost use Rattle.qasm_read.specs.Program.{Answers, AnswersBehind, UnlessMemory};
 
 use crate::fault::QasmFault;
-use crate::program::Program;
-use crate::statement::Placed;
+use crate::statement::{Placed, Program};
 use crate::statements::statement;
 use crate::stop::Stop;
 use crate::tokens::Tokens;

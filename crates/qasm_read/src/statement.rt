@@ -1,10 +1,10 @@
 //! Statements.
 
-use crate::args::Args;
-use crate::body_items::BodyItems;
+use crate::arg::Args;
+use crate::body_item::BodyItems;
 use crate::names::Names;
 use crate::qop::Qop;
-use qc_base::Name;
+use qc_base::{Items, Name};
 
 /// A statement.
 #[derive(Debug, Drop)]
@@ -47,3 +47,6 @@ pub struct Placed {
     pub at: u64,
     pub statement: Statement,
 }
+
+/// A program, as its statements with their places.
+pub type Program = Items<Placed>;

@@ -42,7 +42,7 @@ fn token_of(alloc: Global, piece: Piece) -> Result<Token, NoMemory> {
     })
 }
 
-/// Reads these tokens behind the header. The header's are at 0, 1 and 2, and the first of these at 3.
+/// Reads these tokens after the header. The header's are at 0, 1 and 2, and the first of these at 3.
 fn read(alloc: Global, pieces: &[Piece]) -> Result<Program, QasmFault> {
     let mut tokens = Vec::new(alloc);
     let mut at = pieces.len() as u64;

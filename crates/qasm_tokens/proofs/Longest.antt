@@ -13,7 +13,8 @@ use Rattle.qasm_tokens.specs.declared.piece.Shape.{Shape}
 use Rattle.qasm_tokens.specs.declared.piece.Shape.TheVariants as shapes
 use Rattle.qasm_tokens.specs.declared.piece.Piece.{Piece}
 use Rattle.qasm_tokens.specs.Pieces.{begins, is_space, comment_len, word_len, integer_len, real_len, string_len, sign_of_byte, sign_piece, piece_of_length, ◌or◌, piece_of}
-use Rattle.qasm_tokens.specs.TokenForms.{Each, IsSpace, IsComment, IsWord, IsInteger, IsReal, IsString, HasForm, sign_text, IsLongest, HasNoForm}
+use Rattle.circuit_core.specs.Reals.{Each, IsReal}
+use Rattle.qasm_tokens.specs.TokenForms.{IsSpace, IsComment, IsWord, IsInteger, IsString, HasForm, sign_text, IsLongest, HasNoForm}
 use Rattle.qasm_tokens.proofs.Pieces.{piece_stands, begins_is, begins_within, chosen, either_piece, of_length}
 use Rattle.qasm_tokens.proofs.TokenForms.{Front, two_first, real_covers, integer_digits, digits_no_real, run_at_least, space_front, word_front, word_at_least, integer_front, integer_at_least, comment_front, comment_at_least, string_front, string_at_least, real_front, real_at_least}
 

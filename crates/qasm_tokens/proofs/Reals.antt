@@ -6,7 +6,7 @@ use Rattle.std.proofs.lemmas.Grind.{common_steps}
 use Rattle.std.proofs.lemmas.List.{drop-drop}
 use Rattle.qasm_tokens.specs.Pieces.{exponent_len, fraction_len, real_len}
 
--- behind some of a run the rest of it stands
+-- after some of a run the rest of it stands
 rest_cases : (n k r : ℕ) (b : Bool) → suc k ≤ cond b (1 + n) 0 → (k ≤ n → r ≡ n - k) → r ≡ cond b (1 + n) 0 - suc k
 rest_cases n k r true h ih = omega (arith, ih (omega (arith, h)))
 rest_cases n k r false h ih = absurd (omega (arith, h))
@@ -49,7 +49,7 @@ no_later_real text k e h =
     let behind_fraction : drop (whole - k + fraction) (drop k text) ≡ drop (whole + fraction) text = drop-drop (whole - k + fraction) k text ∙ ap (λ (n : ℕ). drop n text) (omega (arith, h)) in
     rw (left, behind_digits, as_before, behind_fraction) (none_of_parts whole (whole - k) fraction (exponent_len (drop (whole + fraction) text)) (omega (arith, h)) e)
 
--- the same behind the bytes before
+-- the same after the bytes before
 pub no_real_within : (text : List ℕ) (at place : ℕ) → real_len (drop at text) ≡ 0 → at ≤ place → place < at + prefix_len is_ascii_digit (drop at text) → real_len (drop place text) ≡ 0
 no_real_within text at place e low high =
     let here : drop (place - at) (drop at text) ≡ drop place text = drop-drop (place - at) at text ∙ ap (λ (n : ℕ). drop n text) (omega (arith, low)) in

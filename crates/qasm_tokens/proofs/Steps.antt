@@ -51,7 +51,7 @@ reads_on at depth deeper (b ∷ text) piece token e t o =
       reads = rw (e, t, o, moved, rest, place) refl;
     }
 
--- behind the last byte there are no tokens
+-- after the last byte there are no tokens
 pub at_end : (at depth : ℕ) (text : List ℕ) → length text ≤ at → tokens_from at depth 0 (drop at text) ≡ Ok []
 unfolding tokens_from
 at_end at depth text h = rw (drop_all at text h) refl

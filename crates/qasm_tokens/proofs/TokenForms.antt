@@ -8,7 +8,8 @@ use Rattle.std.proofs.lemmas.Grind.{common_steps}
 use Rattle.std.proofs.lemmas.Bool.{eqb-true, ltb-true, lt-ltb, cases_lt}
 use Rattle.std.proofs.lemmas.List.{drop_at, drop_all, take-append-drop, append-nil}
 use Rattle.qasm_tokens.specs.Pieces.{begins, is_space, is_word_byte, is_string_byte, is_comment_byte, comment_len, word_len, integer_len, sign_len, exponent_len, fraction_len, real_len, string_len}
-use Rattle.qasm_tokens.specs.TokenForms.{Each, IsSpace, IsComment, IsWord, IsInteger, IsExponent, IsReal, IsString}
+use Rattle.circuit_core.specs.Reals.{Each, IsExponent, IsReal}
+use Rattle.qasm_tokens.specs.TokenForms.{IsSpace, IsComment, IsWord, IsInteger, IsString}
 use Rattle.qasm_tokens.proofs.Pieces.{begins_is}
 
 -- a front of that form and length
@@ -173,7 +174,7 @@ unfolding sign_len
 sign_front [] = record { front = []; rest = []; made = refl; form = inl refl; len = refl }
 sign_front (b ∷ text) = sign_cases b text (b == 43) (b == 45) refl refl
 
--- the parts of an exponent behind its letter
+-- the parts of an exponent after its letter
 exponent_made : (b : ℕ) (text : List ℕ) → (b ≡ 101) ⊎ (b ≡ 69) → 0 < prefix_len is_ascii_digit (drop (sign_len text) text) → Front IsExponent (1 + sign_len text + prefix_len is_ascii_digit (drop (sign_len text) text)) (b ∷ text)
 exponent_made b text letter h =
     let s = sign_front text in
@@ -401,7 +402,7 @@ real_at_least xs rest (inr e) =
     let len : length xs ≡ length e.whole + length e.exponent = omega (arith, ap length e.made, length-append e.whole e.exponent) in
     rw (whole, len) (exponent_behind e.whole e.exponent rest e.whole_digits e.some e.is_exponent)
 
--- a real goes on behind its first digits
+-- a real goes on after its first digits
 pub real_covers : (text : List ℕ) → 0 < real_len text → prefix_len is_ascii_digit text ≤ real_len text
 unfolding real_len
 real_covers text h = grind (arith, common_steps, h)

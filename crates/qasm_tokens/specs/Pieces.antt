@@ -58,7 +58,7 @@ exponent_len (b ∷ text) =
     let digits = prefix_len is_ascii_digit (drop sign text) in
     if ((b == 101) || (b == 69)) && nat_lt 0 digits then 1 + sign + digits else 0
 
--- a point and digits behind so many digits, at least one digit on one side
+-- a point and digits after so many digits, at least one digit on one side
 unfoldable pub fraction_len : ℕ → List ℕ → ℕ
 fraction_len whole [] = 0
 fraction_len whole (b ∷ text) =

@@ -32,7 +32,7 @@ HasShape shape text = Unit {0}
 abbrev pub behind : ℕ → Option Token → Result (List PlacedToken) TokenFault → Result (List PlacedToken) TokenFault
 behind at token rest = rest >>= λ placed. Ok (with_front at token placed)
 
--- a text reads as this first piece and the bytes behind it do
+-- a text reads as this first piece and the bytes after it do
 pub record Reads (at depth : ℕ) (text : List ℕ) (token : Option Token) (len deeper : ℕ) : Type 0 where
   pub some : 0 < len
   pub within : len ≤ length text
@@ -42,7 +42,7 @@ pub record Reads (at depth : ℕ) (text : List ℕ) (token : Option Token) (len 
 abbrev pub rest_from : List ℕ → ℕ → ℕ → Result (List PlacedToken) TokenFault
 rest_from text at depth = tokens_from at depth 0 (drop at text)
 
--- a text reads so with this token first and the rest behind it
+-- a text reads so with this token first and the rest after it
 abbrev pub IsNext : Option PlacedLexeme → Result (List PlacedToken) TokenFault → Result (List PlacedToken) TokenFault → Type 0
 IsNext None reads rest = reads ≡ Ok []
 IsNext (Some placed) reads rest = reads ≡ behind placed.at (Some (token_seen placed.lexeme)) rest

@@ -1,19 +1,15 @@
 -- The forms of white space, comments and tokens, and what the longest match is.
 -- The language is OpenQASM 2.0 (arXiv:1707.03429, the appendix on its grammar), the forms are this project's profile.
-use Rattle.std.specs.Prelude.{◌≡◌, ℕ, ◌+◌, ◌<◌, ◌≤◌, ◌⊎◌, Bool, IsTrue, List, [], ◌∷◌, ◌++◌, length, take, codes}
+use Rattle.std.specs.Prelude.{◌≡◌, ℕ, ◌<◌, ◌≤◌, ◌⊎◌, IsTrue, List, [], ◌∷◌, ◌++◌, length, take, codes}
 use Rattle.std.specs.Char.{is_ascii_digit, is_ascii_alphabetic}
 use Rattle.std.specs.Int.{IsInRange}
+use Rattle.circuit_core.specs.Reals.{Each, IsReal}
 use Rattle.qasm_tokens.specs.declared.token.Sign.{Sign}
 use Rattle.qasm_tokens.specs.declared.token.Sign.TheVariants.{Semicolon, Comma, LeftParenthesis, RightParenthesis, LeftBracket, RightBracket, LeftBrace, RightBrace, Plus, Minus, Star, Slash, Caret, Arrow, Equals}
 use Rattle.qasm_tokens.specs.declared.piece.Shape.{Shape}
 use Rattle.qasm_tokens.specs.declared.piece.Shape.TheVariants as shapes
 use Rattle.qasm_tokens.specs.declared.piece.Piece.{Piece}
 use Rattle.qasm_tokens.specs.Pieces.{is_space, is_word_byte, is_string_byte, is_comment_byte, begins}
-
--- each byte passes the test
-abbrev pub Each : (ℕ → Bool) → List ℕ → Type 0
-Each p [] = Unit {0}
-Each p (b ∷ text) = IsTrue (p b) × Each p text
 
 -- white space of at least one byte
 abbrev pub IsSpace : List ℕ → Type 0
@@ -32,41 +28,6 @@ IsWord (b ∷ text) = IsTrue (is_ascii_alphabetic b) × Each is_word_byte text
 abbrev pub IsInteger : List ℕ → Type 0
 IsInteger [] = ⊥
 IsInteger (b ∷ text) = ((b ≡ 48) × (text ≡ [])) ⊎ (IsInRange 49 57 b × Each is_ascii_digit text)
-
--- e or E, perhaps + or -, at least one digit
-pub record IsExponent (text : List ℕ) : Type 0 where
-  pub letter : ℕ
-  pub sign : List ℕ
-  pub digits : List ℕ
-  pub made : text ≡ letter ∷ (sign ++ digits)
-  pub is_letter : (letter ≡ 101) ⊎ (letter ≡ 69)
-  pub is_sign : (sign ≡ []) ⊎ ((sign ≡ codes "+") ⊎ (sign ≡ codes "-"))
-  pub some : 0 < length digits
-  pub are_digits : Each is_ascii_digit digits
-
--- digits, a point and digits, at least one digit on one side, then perhaps an exponent
-pub record HasPoint (text : List ℕ) : Type 0 where
-  pub whole : List ℕ
-  pub fraction : List ℕ
-  pub exponent : List ℕ
-  pub made : text ≡ whole ++ 46 ∷ (fraction ++ exponent)
-  pub whole_digits : Each is_ascii_digit whole
-  pub fraction_digits : Each is_ascii_digit fraction
-  pub some : 0 < length whole + length fraction
-  pub perhaps : (exponent ≡ []) ⊎ IsExponent exponent
-
--- digits and an exponent
-pub record HasExponent (text : List ℕ) : Type 0 where
-  pub whole : List ℕ
-  pub exponent : List ℕ
-  pub made : text ≡ whole ++ exponent
-  pub whole_digits : Each is_ascii_digit whole
-  pub some : 0 < length whole
-  pub is_exponent : IsExponent exponent
-
--- one of the two
-abbrev pub IsReal : List ℕ → Type 0
-IsReal text = HasPoint text ⊎ HasExponent text
 
 -- a quote, bytes other than a quote and a line feed, a quote
 abbrev pub IsString : List ℕ → Type 0

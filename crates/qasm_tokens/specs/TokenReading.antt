@@ -14,7 +14,7 @@ use Rattle.qasm_tokens.specs.TokenForms.{IsLongest, HasNoForm}
 --   no_form    no front of the text is of any form
 --   bad_token  the longest match is no token, as its word is unknown or long or its number large
 --   too_deep   the longest match is a parenthesis after which too many are open
---   goes_on    the longest match is a token, or white space or a comment, and the bytes behind it read so
+--   goes_on    the longest match is a token, or white space or a comment, and the bytes after it read so
 pub data ReadsAs : ℕ → ℕ → List ℕ → Result (List PlacedToken) TokenFault → Type 0 where
   at_end : {at depth : ℕ} → ReadsAs at depth [] (Ok [])
   no_form : {at depth : ℕ} {text : List ℕ} → 0 < length text → HasNoForm text → ReadsAs at depth text (Err (Lex at))

@@ -5,6 +5,7 @@ use Rattle.std.specs.Option.{option_or, ok_or}
 use Rattle.std.specs.Char.{is_ascii_uppercase}
 use Rattle.std.specs.Str.{bytes_eq}
 use Rattle.std.specs.Str.Parse.{digits_value}
+use Rattle.circuit_core.specs.Identifier.{statement_words, angle_words}
 use Rattle.qasm_tokens.specs.declared.token.Keyword.{Keyword}
 use Rattle.qasm_tokens.specs.declared.token.Keyword.TheVariants.{OpenQasm, U, Cx, Include, Qreg, Creg, Gate, Opaque, Measure, Reset, Barrier, If, Pi, Sin, Cos, Tan, Exp, Ln, Sqrt}
 use Rattle.qasm_tokens.specs.declared.token.Sign.{Sign}
@@ -30,22 +31,21 @@ upper_keyword word =
     if bytes_eq word (codes "OPENQASM") then Some OpenQasm else (if bytes_eq word (codes "U") then Some U
     else (if bytes_eq word (codes "CX") then Some Cx else None))
 
+-- the keyword of a word, by a table of words and a table of their keywords
+abbrev pub keyword_in : List (List ℕ) → List Keyword → List ℕ → Option Keyword
+keyword_in [] keywords word = None
+keyword_in (text ∷ texts) [] word = None
+keyword_in (text ∷ texts) (keyword ∷ keywords) word =
+    if bytes_eq word text then Some keyword else keyword_in texts keywords word
+
 -- the keywords that begin a statement
 unfoldable pub statement_keyword : List ℕ → Option Keyword
-statement_keyword word =
-    if bytes_eq word (codes "include") then Some Include else (if bytes_eq word (codes "qreg") then Some Qreg
-    else (if bytes_eq word (codes "creg") then Some Creg else (if bytes_eq word (codes "gate") then Some Gate
-    else (if bytes_eq word (codes "opaque") then Some Opaque else (if bytes_eq word (codes "measure") then Some Measure
-    else (if bytes_eq word (codes "reset") then Some Reset else (if bytes_eq word (codes "barrier") then Some Barrier
-    else (if bytes_eq word (codes "if") then Some If else None))))))))
+statement_keyword =
+    keyword_in statement_words (Include ∷ Qreg ∷ Creg ∷ Gate ∷ Opaque ∷ Measure ∷ Reset ∷ Barrier ∷ If ∷ [])
 
 -- the keywords of angles
 unfoldable pub angle_keyword : List ℕ → Option Keyword
-angle_keyword word =
-    if bytes_eq word (codes "pi") then Some Pi else (if bytes_eq word (codes "sin") then Some Sin
-    else (if bytes_eq word (codes "cos") then Some Cos else (if bytes_eq word (codes "tan") then Some Tan
-    else (if bytes_eq word (codes "exp") then Some Exp else (if bytes_eq word (codes "ln") then Some Ln
-    else (if bytes_eq word (codes "sqrt") then Some Sqrt else None))))))
+angle_keyword = keyword_in angle_words (Pi ∷ Sin ∷ Cos ∷ Tan ∷ Exp ∷ Ln ∷ Sqrt ∷ [])
 
 -- the keyword that a word is
 unfoldable pub keyword_of : List ℕ → Option Keyword
@@ -74,7 +74,7 @@ token_of at shapes.Real text = short_token at (tokens.Real text) text
 token_of at shapes.Text text = short_token at (tokens.Text (take (length text - 2) (drop 1 text))) text
 token_of at (shapes.Sign sign) text = Ok (Some (tokens.Sign sign))
 
--- How many parentheses are open behind a sign, at most 100. A closing one closes one where one is open.
+-- How many parentheses are open after a sign, at most 100. A closing one closes one where one is open.
 unfoldable pub open_behind_sign : ℕ → ℕ → Sign → Result ℕ TokenFault
 open_behind_sign at depth LeftParenthesis = if nat_lt depth 100 then Ok (depth + 1) else Err (Deep at)
 open_behind_sign at depth RightParenthesis = Ok (depth - 1)
@@ -83,12 +83,12 @@ open_behind_sign at depth LeftBrace = Ok 0
 open_behind_sign at depth RightBrace = Ok 0
 open_behind_sign at depth sign = Ok depth
 
--- and behind any piece
+-- and after any piece
 unfoldable pub open_behind : ℕ → ℕ → Shape → Result ℕ TokenFault
 open_behind at depth (shapes.Sign sign) = open_behind_sign at depth sign
 open_behind at depth shape = Ok depth
 
--- tokens behind this first one, if there is one
+-- tokens after this first one, if there is one
 abbrev pub with_front : ℕ → Option Token → List PlacedToken → List PlacedToken
 with_front at None placed = placed
 with_front at (Some token) placed = record { at = at; token = token } ∷ placed

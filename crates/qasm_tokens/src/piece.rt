@@ -125,7 +125,7 @@ fn exponent_len(text: &[u8]) -> usize
     if digits == 0 { 0 } else { 1 + sign + digits }
 }
 
-/// How long the point and its digits at the front are, behind so many digits.
+/// How long the point and its digits at the front are, after so many digits.
 #[tactic(auto, unfolding(crate::specs::Pieces::fraction_len))]
 fn fraction_len(whole: usize, text: &[u8]) -> usize
     ensures exact { result ≡ fraction_len whole text.now }

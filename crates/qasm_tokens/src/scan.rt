@@ -12,7 +12,7 @@ use crate::piece::{Shape, digits_len, piece_of, real_len};
 use crate::token::Sign;
 use crate::token_fault::TokenFault;
 
-/// How many parentheses are open behind a sign.
+/// How many parentheses are open after a sign.
 #[tactic(auto, unfolding(crate::specs::Tokens::open_behind_sign))]
 fn open_behind_sign(at: u64, depth: u32, sign: Sign) -> Result<u32, TokenFault>
     ensures { result ≡ open_behind_sign at depth sign }
@@ -26,7 +26,7 @@ fn open_behind_sign(at: u64, depth: u32, sign: Sign) -> Result<u32, TokenFault>
     }
 }
 
-/// How many parentheses are open behind a piece.
+/// How many parentheses are open after a piece.
 #[tactic(auto, unfolding(crate::specs::Tokens::open_behind))]
 fn open_behind(at: u64, depth: u32, shape: Shape) -> Result<u32, TokenFault>
     ensures { result ≡ open_behind at depth shape }
@@ -37,7 +37,7 @@ fn open_behind(at: u64, depth: u32, shape: Shape) -> Result<u32, TokenFault>
     }
 }
 
-/// A piece: the token that it is, if any, its length, and how many parentheses are open behind it.
+/// A piece: the token that it is, if any, its length, and how many parentheses are open after it.
 #[derive(Clone, Copy)]
 struct Step<'a> {
     lexeme: Option<Lexeme<'a>>,

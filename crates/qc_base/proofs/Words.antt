@@ -1,6 +1,6 @@
--- Words in front of a sign, and what stands behind a text.
-use Rattle.std.proofs.Common.{◌≡◌, ◌≢◌, ℕ, suc, ◌+◌, ◌^◌, ◌<◌, ◌≤◌, inl, inr, Bool, true, false, ltb, eqb, List, [], ◌∷◌, ◌++◌, length, get_or, take, drop, Option, Some, None, refl, sym, ap, ◌∙◌, arith, length-append, append_assoc}
-use Rattle.std.specs.Prelude.{position, ◌==◌, decimal, All, MatchOption, IfSome, IsSomeAnd}
+-- Words before a sign, and what comes after a text.
+use Rattle.std.proofs.Common.{◌≡◌, ◌≢◌, ℕ, suc, ◌+◌, ◌^◌, ◌<◌, ◌≤◌, inl, inr, Bool, true, false, ltb, List, [], ◌∷◌, ◌++◌, length, get_or, take, drop, Option, Some, None, refl, sym, ap, ◌∙◌, arith, length-append, append_assoc}
+use Rattle.std.specs.Prelude.{position, ◌==◌, decimal, MatchOption, IfSome, IsSomeAnd}
 use Rattle.std.specs.List.{position_or_len}
 use Rattle.std.proofs.lemmas.Bool.{cond-true, lt-ltb, ne_eqb, eq-eqb, eqb-true, both_ways}
 use Rattle.std.proofs.lemmas.List.{take-append-drop, get_or_at, take_at, drop_at, get_or_append_left, drop_more, get_or-take, length-take-le, get_or_default}
@@ -12,18 +12,18 @@ use Rattle.std.proofs.lemmas.Str.Parse.{digit_at as digit_in_text}
 use Rattle.qc_base.specs.Spelling.{IsSign, IsFree}
 use denote.Ref.{Bor}
 
--- two rests behind one text are one
+-- two rests after one text are one
 pub same_rest : (text a b : List ℕ) → text ++ a ≡ text ++ b → a ≡ b
 same_rest [] a b e = e
 same_rest (x ∷ text) a b e = same_rest text a b cc
 
-pub behind_found : (bytes text : List ℕ) (r : Option (Bor (List ℕ))) → MatchOption r ((rest : List ℕ) → bytes ≢ text ++ rest) (λ x. bytes ≡ text ++ x.now) → IfSome r (λ x. bytes ≡ text ++ x.now)
-behind_found bytes text None h = tt
-behind_found bytes text (Some x) h = h
+pub prefix_found : (bytes text : List ℕ) (r : Option (Bor (List ℕ))) → MatchOption r ((rest : List ℕ) → bytes ≢ text ++ rest) (λ x. bytes ≡ text ++ x.now) → IfSome r (λ x. bytes ≡ text ++ x.now)
+prefix_found bytes text None h = tt
+prefix_found bytes text (Some x) h = h
 
-pub behind_only : (bytes text : List ℕ) (r : Option (Bor (List ℕ))) → MatchOption r ((rest : List ℕ) → bytes ≢ text ++ rest) (λ x. bytes ≡ text ++ x.now) → (rest : List ℕ) → bytes ≡ text ++ rest → IsSomeAnd r (λ x. x.now ≡ rest)
-behind_only bytes text None h rest e = absurd (h rest e)
-behind_only bytes text (Some x) h rest e = same_rest text x.now rest (sym h ∙ e)
+pub prefix_only : (bytes text : List ℕ) (r : Option (Bor (List ℕ))) → MatchOption r ((rest : List ℕ) → bytes ≢ text ++ rest) (λ x. bytes ≡ text ++ x.now) → (rest : List ℕ) → bytes ≡ text ++ rest → IsSomeAnd r (λ x. x.now ≡ rest)
+prefix_only bytes text None h rest e = absurd (h rest e)
+prefix_only bytes text (Some x) h rest e = same_rest text x.now rest (sym h ∙ e)
 
 -- a word without the sign is what stands before the first sign
 pub word_before : (sign : ℕ) (word other rest more : List ℕ) → IsFree sign word → IsFree sign other → word ++ sign ∷ rest ≡ other ++ sign ∷ more → (word ≡ other) × (rest ≡ more)

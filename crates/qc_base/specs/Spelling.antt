@@ -1,4 +1,4 @@
--- Words and numbers in front of a sign.
+-- Words and numbers before a sign.
 use Rattle.std.specs.Prelude.{◌≢◌, ℕ, ◌<◌, ◌⊎◌, List, All}
 
 -- a byte that is no digit

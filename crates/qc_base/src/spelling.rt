@@ -1,12 +1,13 @@
-//! Reading texts that have one spelling: what stands behind a text, and words and numbers in front of a sign.
+//! Texts that have one spelling, read and written: what comes after a text, words, and numbers.
 
-ghost use Rattle.std.specs.Prelude.{◌≡◌, ℕ, ◌==◌, position, ◌<◌, ◌^◌, ◌++◌, ◌∷◌, List, IfSome, IsSomeAnd, decimal};
+ghost use Rattle.std.specs.Prelude.{◌≡◌, ℕ, ◌==◌, position, ◌<◌, ◌^◌, ◌++◌, ◌∷◌, List, IfSome, IsSomeAnd, OnOk, OnErr, decimal};
 ghost use Rattle.qc_base.specs.Spelling.{IsSign, IsFree};
 
+use crate::ids::NoMemory;
 use itoa::Buffer;
 
-/// What stands behind the text, where the bytes begin with it.
-pub fn behind<'a>(bytes: &'a [u8], text: &[u8]) -> Option<&'a [u8]>
+/// What comes after the text, where the bytes begin with it.
+pub fn strip_prefix<'a>(bytes: &'a [u8], text: &[u8]) -> Option<&'a [u8]>
     ensures found { IfSome result (λ rest. bytes.now ≡ text.now ++ rest.now) }
     ensures only { (rest : List ℕ) → bytes.now ≡ text.now ++ rest → IsSomeAnd result (λ x. x.now ≡ rest) }
 {
@@ -20,8 +21,8 @@ fn place_of(bytes: &[u8], sign: u8) -> Option<usize>
     bytes.iter().position(|byte| *byte == sign)
 }
 
-/// The word in front of the first such sign, and what stands behind the sign.
-pub fn word_until(bytes: &[u8], sign: u8) -> Option<(&[u8], &[u8])>
+/// The word before the first such sign, and what comes after the sign.
+pub fn split_once(bytes: &[u8], sign: u8) -> Option<(&[u8], &[u8])>
     ensures found { IfSome result (λ x. bytes.now ≡ x.0.now ++ sign ∷ x.1.now) }
     ensures free { IfSome result (λ x. IsFree sign x.0.now) }
     ensures only { (word rest : List ℕ) → IsFree sign word → bytes.now ≡ word ++ sign ∷ rest
@@ -41,9 +42,10 @@ fn parsed(digits: &[u8]) -> Option<u64>
     }
 }
 
-// The number that these bytes are.
-fn number_of(digits: &[u8]) -> Option<u64>
+/// The number that these bytes are, decimal and without leading zeros.
+pub fn number_of(digits: &[u8]) -> Option<u64>
     ensures found { IfSome result (λ number. digits.now ≡ decimal number) }
+    ensures fits { IfSome result (λ number. number < 2 ^ 64) }
     ensures only { (number : ℕ) → number < 2 ^ 64 → digits.now ≡ decimal number → result ≡ Some number }
 {
     let number = parsed(digits)?;
@@ -55,14 +57,24 @@ fn number_of(digits: &[u8]) -> Option<u64>
     }
 }
 
-/// The number in front of the first such sign, decimal and without leading zeros, and what stands behind the sign.
+/// Appends a number in that spelling.
+pub fn push_number(out: &mut Vec<u8>, number: u64) -> Result<(), NoMemory>
+    ensures ok { OnOk result (out.new.items ≡ out.old.items ++ decimal number) }
+    ensures err { OnErr result (out.new.items ≡ out.old.items) }
+{
+    let mut buffer = Buffer::new();
+    out.extend_from_slice(buffer.format(number).as_bytes())?;
+    Ok(())
+}
+
+/// The number before the first such sign, decimal and without leading zeros, and what comes after the sign.
 pub fn number_until(bytes: &[u8], sign: u8) -> Option<(u64, &[u8])>
     requires { IsSign sign }
     ensures found { IfSome result (λ x. bytes.now ≡ decimal x.0 ++ sign ∷ x.1.now) }
     ensures only { (number : ℕ) (rest : List ℕ) → number < 2 ^ 64 → bytes.now ≡ decimal number ++ sign ∷ rest
         → IsSomeAnd result (λ x. (x.0 ≡ number) × (x.1.now ≡ rest)) }
 {
-    let (digits, rest) = word_until(bytes, sign)?;
+    let (digits, rest) = split_once(bytes, sign)?;
     let number = number_of(digits)?;
     Some((number, rest))
 }

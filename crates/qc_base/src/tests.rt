@@ -1,8 +1,8 @@
 //! Reads and writes over memory.
 
 use crate::{
-    Failed, MemShelf, MemSink, Name, ReadFault, behind, number_until, read_whole,
-    small_number_until, word_until, write_all,
+    Failed, MemShelf, MemSink, Name, ReadFault, number_of, number_until, push_number, read_whole,
+    small_number_until, split_once, strip_prefix, write_all,
 };
 use std::test::Fail;
 
@@ -33,6 +33,18 @@ fn a_file_added_again_is_replaced(rt: HostRuntime) -> Result<(), Fail> {
 }
 
 #[test]
+fn a_read_that_fails_is_not_tried_again(rt: HostRuntime) -> Result<(), Fail> {
+    let alloc = rt.alloc();
+    let mut shelf = MemShelf::new(alloc, vec![in alloc; 1]?);
+    shelf.add("a", b"abc")?;
+    let read = read_whole(alloc, &mut shelf, "a", 3);
+    assert!(rt; read.err() == Some(ReadFault::Failed));
+    let again = read_whole(alloc, &mut shelf, "a", 3)?;
+    assert!(rt; again.as_slice() == b"abc".as_slice());
+    Ok(())
+}
+
+#[test]
 fn bytes_are_handed_over_piece_by_piece(rt: HostRuntime) -> Result<(), Fail> {
     let alloc = rt.alloc();
     let mut sink = MemSink::new(alloc, 3, 8, Vec::new(alloc))?;
@@ -53,10 +65,10 @@ fn names_are_their_bytes(rt: HostRuntime) -> Result<(), Fail> {
 
 #[test]
 fn words_and_numbers_end_at_their_sign(rt: HostRuntime) -> Result<(), Fail> {
-    assert!(rt; behind(b"step 1", b"step ") == Some(b"1".as_slice()));
-    assert!(rt; behind(b"steps 1", b"step ").is_none());
-    assert!(rt; word_until(b"a b c", b' ') == Some((b"a".as_slice(), b"b c".as_slice())));
-    assert!(rt; word_until(b"abc", b' ').is_none());
+    assert!(rt; strip_prefix(b"step 1", b"step ") == Some(b"1".as_slice()));
+    assert!(rt; strip_prefix(b"steps 1", b"step ").is_none());
+    assert!(rt; split_once(b"a b c", b' ') == Some((b"a".as_slice(), b"b c".as_slice())));
+    assert!(rt; split_once(b"abc", b' ').is_none());
     let largest = number_until(b"18446744073709551615\n", b'\n');
     assert!(rt; largest == Some((18446744073709551615, b"".as_slice())));
     let numbers: [&[u8]; 6] = [
@@ -70,8 +82,18 @@ fn words_and_numbers_end_at_their_sign(rt: HostRuntime) -> Result<(), Fail> {
     for number in numbers {
         assert!(rt; number_until(number, b'\n').is_none());
     }
+    assert!(rt; number_of(b"10") == Some(10));
+    assert!(rt; number_of(b"10 ").is_none());
     let small = small_number_until(b"4294967295 1", b' ');
     assert!(rt; small == Some((4294967295, b"1".as_slice())));
     assert!(rt; small_number_until(b"4294967296 1", b' ').is_none());
+    Ok(())
+}
+
+#[test]
+fn a_number_is_appended(rt: HostRuntime) -> Result<(), Fail> {
+    let mut out = Vec::from_slice(rt.alloc(), b"step ")?;
+    push_number(&mut out, 10)?;
+    assert!(rt; out.as_slice() == b"step 10".as_slice());
     Ok(())
 }

@@ -6,14 +6,15 @@ use Rattle.std.proofs.lemmas.Bool.{eq-eqb, ne_eqb, le-leb, cases_eq}
 use Rattle.std.proofs.lemmas.List.{append-nil}
 use Rattle.std.proofs.lemmas.List.FromFn.{length-map-range_with_len, map-range_with_len_more}
 use Rattle.qc_base.specs.declared.ids.Qubit.{Qubit}
-use Rattle.circuit_core.specs.Circuit.{Parts, qubit_count}
+use Rattle.circuit_core.specs.Circuit.{CircuitValue, qubit_count}
 use Rattle.trap_model.specs.declared.fault.TrapFault.{TrapFault}
 use Rattle.trap_model.specs.declared.fault.TrapFault.TheVariants as trap_faults
-use Rattle.trap_model.specs.Trap.{Lists, limit_of}
+use Rattle.trap_model.specs.Trap.{TrapValue, limit_of}
 use Rattle.trap_model.specs.Build as building
 use Rattle.step_rules.specs.declared.placement.GivenFault.{GivenFault}
 use Rattle.step_rules.specs.declared.placement.GivenFault.TheVariants as given_faults
-use Rattle.step_rules.specs.Placement.{reading_order, stands, first_repeated, zone_fault, missing_fault, placement_of, Gives}
+use Rattle.circuit_core.specs.Deciding.{stands}
+use Rattle.step_rules.specs.Placement.{reading_order, first_repeated, zone_fault, missing_fault, placement_of, Gives}
 use Rattle.qccd.specs.Filling.{qubit_of, declared_qubits, room}
 use Rattle.qccd.specs.Forms.{IsFullZone, one_zone}
 use Rattle.qccd.proofs.Declared.{row, zones_of, fits_one}
@@ -43,23 +44,23 @@ none_found : (test : ℕ → Bool) (first count : ℕ) → ((k : ℕ) → first 
 none_found test first zero fails = refl
 none_found test first (suc count) fails = rw (fails first (omega arith) (omega arith)) (none_found test (first + 1) count (λ k low high. fails k (omega arith) (omega arith)))
 
-none_missing : (circuit : Parts) → missing_fault circuit (declared_qubits circuit ∷ []) ≡ None
+none_missing : (circuit : CircuitValue) → missing_fault circuit (declared_qubits circuit ∷ []) ≡ None
 none_missing circuit =
     let count = qubit_count circuit in
     let test : ℕ → Bool = λ number. not (stands number (reading_order (declared_qubits circuit ∷ []))) in
     let none : find test (range_with_len 0 count) ≡ None = none_found test 0 count (λ k low high. rw (append-nil (declared_qubits circuit), stands_in 0 count k low high) refl) in
     rw none refl
 
-fits_zone : (trap : Lists) (circuit : Parts) → IsFullZone trap → qubit_count circuit ≤ room trap.zones → length (declared_qubits circuit) ≤ limit_of trap 0
+fits_zone : (trap : TrapValue) (circuit : CircuitValue) → IsFullZone trap → qubit_count circuit ≤ room trap.zones → length (declared_qubits circuit) ≤ limit_of trap 0
 fits_zone trap circuit zone fits = rw (zones_of trap zone) (omega (arith, fits_one trap circuit zone fits, length-map-range_with_len qubit_of 0 (qubit_count circuit)))
 
-none_full : (trap : Lists) (circuit : Parts) → IsFullZone trap → qubit_count circuit ≤ room trap.zones → zone_fault trap 0 [] (declared_qubits circuit) ≡ None
+none_full : (trap : TrapValue) (circuit : CircuitValue) → IsFullZone trap → qubit_count circuit ≤ room trap.zones → zone_fault trap 0 [] (declared_qubits circuit) ≡ None
 none_full trap circuit zone fits = rw (none_repeated 0 (qubit_count circuit), le-leb _ _ (fits_zone trap circuit zone fits)) refl
 
-pub placement_is : (trap : Lists) (circuit : Parts) → IsFullZone trap → qubit_count circuit ≤ room trap.zones → placement_of trap circuit (declared_qubits circuit ∷ []) ≡ Ok (declared_qubits circuit ∷ [])
+pub placement_is : (trap : TrapValue) (circuit : CircuitValue) → IsFullZone trap → qubit_count circuit ≤ room trap.zones → placement_of trap circuit (declared_qubits circuit ∷ []) ≡ Ok (declared_qubits circuit ∷ [])
 placement_is trap circuit zone fits = rw (none_full trap circuit zone fits, none_missing circuit) refl
 
--- what is accepted is refused for want of memory alone
+-- what is accepted is refused only where memory runs out
 pub placed_unless : (lists : List (List Qubit)) (fault : GivenFault) → Gives (Err fault) (Ok lists) → fault ≢ given_faults.NoMemory → ⊥
 placed_unless lists (given_faults.Repeated qubit) said other = cc
 placed_unless lists (given_faults.Full zone) said other = cc
@@ -72,7 +73,7 @@ pub built : (capacity : ℕ) → 1 ≤ capacity → capacity ≤ 32 → building
 unfolding building.build_of building.parts_pass building.joins_from
 built capacity low high = rw (le-leb 1 capacity low, le-leb capacity 32 high) refl
 
-pub built_unless : (trap : Lists) (fault : TrapFault) → building.Fails fault (Ok trap) → fault ≢ trap_faults.NoMemory → ⊥
+pub built_unless : (trap : TrapValue) (fault : TrapFault) → building.Fails fault (Ok trap) → fault ≢ trap_faults.NoMemory → ⊥
 built_unless trap trap_faults.NoMemory said other = other refl
 built_unless trap trap_faults.NoZone said other = cc
 built_unless trap (trap_faults.TooMany what) said other = cc

@@ -1,25 +1,26 @@
--- Operations in front of others, and that they fit the register.
+-- Operations before others, and that they fit the register.
 use Rattle.std.proofs.Common.{◌≡◌, ◌≢◌, eqb, true, false, Bool, ℕ, zero, suc, ◌+◌, ◌<◌, List, [], ◌∷◌, ◌++◌, length, Option, Some, None, refl, sym, ap, subst, ◌∙◌, arith, append_assoc}
-use Rattle.std.specs.Prelude.{All, IsTrue, nat_lt, nat_le, slice_get, ◌≤◌, ◌&&◌, if◌then◌else◌}
+use Rattle.std.specs.Prelude.{All, AllPairs, IsTrue, nat_lt, nat_le, slice_get, ◌≤◌, ◌&&◌, if◌then◌else◌}
 use Rattle.std.specs.Str.{bytes_eq}
 use Rattle.std.proofs.lemmas.Bool.{eqb-false, ltb-true, leb-true, and_parts}
 use Rattle.std.proofs.lemmas.Option.{same_Some, none-some}
-use Rattle.std.proofs.lemmas.List.Elements.{All-nil, All-cons}
+use Rattle.std.proofs.lemmas.List.Elements.{All-nil, All-cons, All-head, All-tail, All-weaker}
 use Rattle.qc_base.specs.declared.ids.Qubit.{Qubit}
 use Rattle.circuit_core.specs.declared.op.Op.{Op}
 use Rattle.circuit_core.specs.declared.op.Op.TheVariants.{Cx}
 use Rattle.circuit_core.specs.declared.circuit.Reg.{Reg}
-use Rattle.circuit_core.specs.Circuit.{Parts, IsCircuit, IsRegister, HaveNamesOfTheirOwn, IsOpOn}
+use Rattle.circuit_core.specs.Circuit.{CircuitValue, IsCircuit, qubit_count, IsRegister, HaveNamesOfTheirOwn, IsOpOf, nodes_in, all_nodes}
 use Rattle.circuit_core.specs.Identifier.{is_identifier}
+use Rattle.circuit_core.specs.Op.{qubits_of, angles_of, IsAngle}
 use Rattle.qasm_read.specs.declared.arg.Arg.{Arg}
 use Rattle.qasm_read.specs.declared.qop.Qop.{Qop}
 use Rattle.qasm_read.specs.declared.qop.Qop.TheVariants as operations
 use Rattle.qasm_read.specs.declared.statement.Statement.{Statement}
 use Rattle.qasm_read.specs.declared.statement.Statement.TheVariants as statements
 use Rattle.qasm_read.specs.declared.statement.Placed.{Placed}
-use Rattle.qccd.specs.Flat.{◌>>=◌, index_of, cx_on, cx_of, op_of, ops_of, is_within, register_circuit, circuit_on, circuit_from, flat}
+use Rattle.qccd.specs.Flat.{◌>>=◌, index_of, cx_on, cx_of, op_of, ops_of, is_within, register_circuit, circuit_on, circuit_from, flat, IsCxOn}
 
--- these operations, and others behind them
+-- these operations, and others after them
 abbrev pub behind : List Op → Option (List Op) → Option (List Op)
 behind front None = None
 behind front (Some ops) = Some (front ++ ops)
@@ -83,13 +84,12 @@ index_below name size arg i e =
     let below = both (bytes_eq arg.name name) (nat_lt m.x size) p.0 in
     subst (λ (n : ℕ). n < size) p.1 (ltb-true m.x size below)
 
-cx_fits : (size control target : ℕ) (op : Op) → control < size → target < size → cx_on control target ≡ Some op → IsOpOn size op
+cx_fits : (size control target : ℕ) (op : Op) → control < size → target < size → cx_on control target ≡ Some op → IsCxOn size op
 cx_fits size control target op first second e =
     let f = failed (eqb control target) (Cx (record { 0 = control }) (record { 0 = target }) None) op e in
-    let other : control ≢ target = eqb-false control target f.0 in
-    subst (IsOpOn size) f.1 (first, second, (λ same. other (ap (λ (q : Qubit). q.0) same)), refl)
+    record { control = control; target = target; is = f.1; first = first; second = second; other = eqb-false control target f.0 }
 
-cx_of_fits : (name : List ℕ) (size : ℕ) (q : Qop) (op : Op) → cx_of name size q ≡ Some op → IsOpOn size op
+cx_of_fits : (name : List ℕ) (size : ℕ) (q : Qop) (op : Op) → cx_of name size q ≡ Some op → IsCxOn size op
 cx_of_fits name size (operations.Cx control target) op e =
     let a = made (index_of name size control) (λ first. index_of name size target >>= cx_on first) op e in
     let b = made (index_of name size target) (cx_on a.x) op a.made in
@@ -99,7 +99,7 @@ cx_of_fits name size (operations.Call gate params args) op e = absurd (none-some
 cx_of_fits name size (operations.Measure source target) op e = absurd (none-some op e)
 cx_of_fits name size (operations.Reset arg) op e = absurd (none-some op e)
 
-op_fits : (name : List ℕ) (size : ℕ) (s : Statement) (op : Op) → op_of name size s ≡ Some op → IsOpOn size op
+op_fits : (name : List ℕ) (size : ℕ) (s : Statement) (op : Op) → op_of name size s ≡ Some op → IsCxOn size op
 op_fits name size (statements.Apply q) op e = cx_of_fits name size q op e
 op_fits name size (statements.Include text) op e = absurd (none-some op e)
 op_fits name size (statements.Register quantum other n) op e = absurd (none-some op e)
@@ -110,17 +110,17 @@ op_fits name size (statements.If creg value q) op e = absurd (none-some op e)
 
 pub record Fit (size count : ℕ) (ops : List Op) : Type 0 where
   pub as_many : length ops ≡ count
-  pub fit : All (IsOpOn size) ops
+  pub fit : All (IsCxOn size) ops
 
 pub ops_fit : (name : List ℕ) (size : ℕ) (placed : List Placed) (ops : List Op) → ops_of name size placed ≡ Some ops → Fit size (length placed) ops
-ops_fit name size [] ops e = subst (Fit size 0) (same_Some [] ops e) (record { as_many = refl; fit = All-nil (IsOpOn size) })
+ops_fit name size [] ops e = subst (Fit size 0) (same_Some [] ops e) (record { as_many = refl; fit = All-nil (IsCxOn size) })
 ops_fit name size (p ∷ rest) ops e =
     let a = made (op_of name size p.statement) (λ op. ops_of name size rest >>= (λ more. Some (op ∷ more))) ops e in
     let b = made (ops_of name size rest) (λ more. Some (a.x ∷ more)) ops a.made in
     let more = ops_fit name size rest b.x b.is in
     subst (Fit size (length (p ∷ rest))) (same_Some (a.x ∷ b.x) ops b.made) (record {
       as_many = omega (arith, more.as_many);
-      fit = All-cons (IsOpOn size) a.x b.x (op_fits name size p.statement a.x a.is) more.fit;
+      fit = All-cons (IsCxOn size) a.x b.x (op_fits name size p.statement a.x a.is) more.fit;
     })
 
 -- ---- the circuit of a program is one
@@ -146,26 +146,59 @@ only_one reg first (suc i) e = absurd (none-some first e)
 own_names : (reg : Reg) → HaveNamesOfTheirOwn (reg ∷ [])
 own_names reg i j first second e f same = only_one reg first i e ∙ sym (only_one reg second j f)
 
-one_register : (name : List ℕ) (size count : ℕ) (ops : List Op) → Within name size count → Fit size count ops → IsCircuit (register_circuit name size ops)
-one_register name size count ops is fit =
+two_differ : (control target : ℕ) → control ≢ target → AllPairs (λ (qubit other : Qubit). qubit ≢ other) (qubits_of (Cx (record { 0 = control }) (record { 0 = target }) None))
+two_differ control target other zero zero d before within = absurd (omega arith)
+two_differ control target other zero (suc zero) d before within = λ same. other (ap (λ (q : Qubit). q.0) same)
+two_differ control target other zero (suc (suc j)) d before within = absurd (omega arith)
+two_differ control target other (suc i) zero d before within = absurd (omega arith)
+two_differ control target other (suc i) (suc zero) d before within = absurd (omega arith)
+two_differ control target other (suc i) (suc (suc j)) d before within = absurd (omega arith)
+
+pub cx_is_op : (circuit : CircuitValue) (size : ℕ) (op : Op) → size ≡ qubit_count circuit → IsCxOn size op → IsOpOf circuit op
+cx_is_op circuit size op same cx =
+    let below : Qubit → Type 0 = λ qubit. qubit.0 < qubit_count circuit in
+    subst (IsOpOf circuit) cx.is (record {
+      some = omega arith;
+      qubits = All-cons below (record { 0 = cx.control }) (record { 0 = cx.target } ∷ []) (omega (arith, cx.first, same))
+          (All-cons below (record { 0 = cx.target }) [] (omega (arith, cx.second, same)) (All-nil below));
+      differ = two_differ cx.control cx.target cx.other;
+      bit = tt;
+      cond = tt;
+      angles = All-nil IsAngle;
+      gate = tt;
+    })
+
+no_angles : (size : ℕ) (op : Op) → IsCxOn size op → nodes_in (angles_of op) ≡ 0
+no_angles size op cx = subst (λ (op : Op). nodes_in (angles_of op) ≡ 0) cx.is refl
+
+no_nodes : (size : ℕ) (ops : List Op) → All (IsCxOn size) ops → all_nodes ops ≡ 0
+no_nodes size [] fit = refl
+no_nodes size (op ∷ ops) fit = omega (arith, no_angles size op (All-head (IsCxOn size) op ops fit), no_nodes size ops (All-tail (IsCxOn size) op ops fit))
+
+pub one_register : (name : List ℕ) (size : ℕ) (ops : List Op) → IsTrue (is_identifier name) → 1 ≤ size → size ≤ 128 → length ops ≤ 10000 → All (IsCxOn size) ops → IsCircuit (register_circuit name size ops)
+one_register name size ops word some few short fit =
     let reg : Reg = record { name = name; size = size } in
+    let circuit : CircuitValue = register_circuit name size ops in
     let all : size ≡ size + 0 = omega arith in
     record {
-      registers = All-cons IsRegister reg [] (record { some = is.some; name = is.word }) (All-nil IsRegister);
+      registers = All-cons IsRegister reg [] (record { some = some; name = word }) (All-nil IsRegister);
       names = own_names reg;
-      qubits = omega (arith, is.few);
+      qubits = omega (arith, few);
       bits = omega arith;
-      few = omega (arith, fit.as_many, is.short);
-      ops = subst (λ (n : ℕ). All (IsOpOn n) ops) all fit.fit;
+      few = short;
+      ops = All-weaker (IsCxOn size) (IsOpOf circuit) (λ op cx. cx_is_op circuit size op all cx) ops fit;
+      nodes = omega (arith, no_nodes size ops fit);
     }
 
-on_register : (name : List ℕ) (size : ℕ) (placed : List Placed) (circuit : Parts) → circuit_on name size placed ≡ Some circuit → IsCircuit circuit
+on_register : (name : List ℕ) (size : ℕ) (placed : List Placed) (circuit : CircuitValue) → circuit_on name size placed ≡ Some circuit → IsCircuit circuit
 on_register name size placed circuit e =
     let inside = passed_test (is_within name size placed) (ops_of name size placed >>= (λ ops. Some (register_circuit name size ops))) circuit e in
     let ops = made (ops_of name size placed) (λ ops. Some (register_circuit name size ops)) circuit inside.1 in
-    subst IsCircuit (same_Some (register_circuit name size ops.x) circuit ops.made) (one_register name size (length placed) ops.x (all_within name size placed inside.0) (ops_fit name size placed ops.x ops.is))
+    subst IsCircuit (same_Some (register_circuit name size ops.x) circuit ops.made) (let within = all_within name size placed inside.0 in
+    let fit = ops_fit name size placed ops.x ops.is in
+    one_register name size ops.x within.word within.some within.few (omega (arith, fit.as_many, within.short)) fit.fit)
 
-from_register : (statement : Statement) (rest : List Placed) (circuit : Parts) → circuit_from statement rest ≡ Some circuit → IsCircuit circuit
+from_register : (statement : Statement) (rest : List Placed) (circuit : CircuitValue) → circuit_from statement rest ≡ Some circuit → IsCircuit circuit
 from_register (statements.Register true name size) rest circuit e = on_register name size rest circuit e
 from_register (statements.Register false name size) rest circuit e = absurd (none-some circuit e)
 from_register (statements.Apply q) rest circuit e = absurd (none-some circuit e)
@@ -175,6 +208,6 @@ from_register (statements.Opaque gate params qubits) rest circuit e = absurd (no
 from_register (statements.Barrier args) rest circuit e = absurd (none-some circuit e)
 from_register (statements.If creg value q) rest circuit e = absurd (none-some circuit e)
 
-pub flat_is_circuit : (program : List Placed) (circuit : Parts) → flat program ≡ Some circuit → IsCircuit circuit
+pub flat_is_circuit : (program : List Placed) (circuit : CircuitValue) → flat program ≡ Some circuit → IsCircuit circuit
 flat_is_circuit [] circuit e = absurd (none-some circuit e)
 flat_is_circuit (first ∷ rest) circuit e = from_register first.statement rest circuit e

@@ -3,10 +3,10 @@ use Rattle.std.proofs.Common.{◌≡◌, ℕ, ◌+◌, ◌≤◌, ◌<◌, List,
 use Rattle.std.proofs.lemmas.Bool.{cases_lt}
 use Rattle.qc_base.specs.Shelf.{Contents}
 use Rattle.qc_base.specs.declared.ids.Qubit.{Qubit}
-use Rattle.circuit_core.specs.Circuit.{Parts}
-use Rattle.trap_model.specs.Trap.{Lists}
+use Rattle.circuit_core.specs.Circuit.{CircuitValue}
+use Rattle.trap_model.specs.Trap.{TrapValue}
 use Rattle.step_rules.specs.declared.action.Action.{Action}
-use Rattle.step_rules.specs.Setting.{Setting, setting_of}
+use Rattle.step_rules.specs.Setting.{SettingValue, setting_of}
 use Rattle.step_rules.specs.declared.action.Action.TheVariants as actions
 use Rattle.step_rules.specs.Play.{Plays, actions_of}
 use Rattle.std.specs.List.{flat_map}
@@ -28,7 +28,7 @@ use Rattle.qccd.proofs.Stages.{IsOne, then-one}
 
 -- ---- one first bad line
 
-lower_bad : (trap : Lists) (circuit : Parts) (bytes : List ℕ) (a b : ℕ) → IsBadLine trap circuit bytes a → IsBadLine trap circuit bytes b → a < b → ⊥
+lower_bad : (trap : TrapValue) (circuit : CircuitValue) (bytes : List ℕ) (a b : ℕ) → IsBadLine trap circuit bytes a → IsBadLine trap circuit bytes b → a < b → ⊥
 lower_bad trap circuit bytes a b first second less = first.bad (omega (arith, second.within)) (second.before a first.counted less)
 
 antisymmetric : (m n : ℕ) → (m < n → ⊥) → (n < m → ⊥) → m ≡ n
@@ -41,16 +41,16 @@ antisymmetric m n below above =
       ]
     ]
 
-pub one_bad_line : (trap : Lists) (circuit : Parts) (bytes : List ℕ) (a b : ℕ) → IsBadLine trap circuit bytes a → IsBadLine trap circuit bytes b → a ≡ b
+pub one_bad_line : (trap : TrapValue) (circuit : CircuitValue) (bytes : List ℕ) (a b : ℕ) → IsBadLine trap circuit bytes a → IsBadLine trap circuit bytes b → a ≡ b
 one_bad_line trap circuit bytes a b first second = antisymmetric a b (λ less. lower_bad trap circuit bytes a b first second less) (λ less. lower_bad trap circuit bytes b a second first less)
 
 -- a refusal names its line
-record Refusal (trap : Lists) (circuit : Parts) (bytes : List ℕ) (answer : Answer) : Type 0 where
+record Refusal (trap : TrapValue) (circuit : CircuitValue) (bytes : List ℕ) (answer : Answer) : Type 0 where
   line : ℕ
   answer_is : answer ≡ answers.Text line
   bad : IsBadLine trap circuit bytes line
 
-refusal : (trap : Lists) (circuit : Parts) (bytes : List ℕ) (answer : Answer) → TextOf trap circuit bytes (Err answer) → Refusal trap circuit bytes answer
+refusal : (trap : TrapValue) (circuit : CircuitValue) (bytes : List ℕ) (answer : Answer) → TextOf trap circuit bytes (Err answer) → Refusal trap circuit bytes answer
 refusal trap circuit bytes (answers.Text line) is = record { line = line; answer_is = refl; bad = is }
 refusal trap circuit bytes answers.Ok is = absurd is
 refusal trap circuit bytes answers.Usage is = absurd is
@@ -66,7 +66,7 @@ same_pair : (a b : Planned) → a.placement ≡ b.placement → a.steps ≡ b.st
 same_pair a b e f =
     ap (λ (placement : List (List Qubit)). record { placement = placement; steps = a.steps }) e ∙ ap (λ (steps : List (List Action)). record { placement = b.placement; steps = steps }) f
 
-text-one : (trap : Lists) (circuit : Parts) (bytes : List ℕ) → IsOne (TextOf trap circuit bytes)
+text-one : (trap : TrapValue) (circuit : CircuitValue) (bytes : List ℕ) → IsOne (TextOf trap circuit bytes)
 text-one trap circuit bytes (Ok a) (Ok b) p q = let same = q.1 a.placement a.steps p.0 in ap Ok (same_pair a b same.0 same.1)
 text-one trap circuit bytes (Ok a) (Err answer) p q = absurd ((refusal trap circuit bytes answer q).bad.none (record { placement = a.placement; steps = a.steps; spells = p.0 }))
 text-one trap circuit bytes (Err answer) (Ok a) p q = absurd ((refusal trap circuit bytes answer p).bad.none (record { placement = a.placement; steps = a.steps; spells = q.0 }))
@@ -77,12 +77,12 @@ text-one trap circuit bytes (Err answer) (Err other) p q =
     ap Err (first.answer_is ∙ ap answers.Text same ∙ sym second.answer_is)
 
 -- a verdict names the fault
-record Verdict (setting : Setting) (steps : List (List Action)) (answer : Answer) : Type 0 where
+record Verdict (setting : SettingValue) (steps : List (List Action)) (answer : Answer) : Type 0 where
   fault : PlayFault
   answer_is : answer ≡ answers.Illegal fault
   is : IsFault setting steps fault
 
-verdict : (setting : Setting) (steps : List (List Action)) (answer : Answer) → VerdictOf setting steps (Err answer) → Verdict setting steps answer
+verdict : (setting : SettingValue) (steps : List (List Action)) (answer : Answer) → VerdictOf setting steps (Err answer) → Verdict setting steps answer
 verdict setting steps (answers.Illegal fault) is = record { fault = fault; answer_is = refl; is = is }
 verdict setting steps answers.Ok is = absurd is
 verdict setting steps answers.Usage is = absurd is
@@ -94,7 +94,7 @@ verdict setting steps answers.WriteFault is = absurd is
 verdict setting steps answers.NoMemory is = absurd is
 verdict setting steps answers.Unbuilt is = absurd is
 
-verdict-one : (setting : Setting) (steps : List (List Action)) → IsOne (VerdictOf setting steps)
+verdict-one : (setting : SettingValue) (steps : List (List Action)) → IsOne (VerdictOf setting steps)
 verdict-one setting steps (Ok a) (Ok b) p q = ap Ok (p.1 ∙ sym q.1)
 verdict-one setting steps (Ok a) (Err answer) p q = let v = verdict setting steps answer q in absurd (not_both setting steps v.fault v.is p.0)
 verdict-one setting steps (Err answer) (Ok a) p q = let v = verdict setting steps answer p in absurd (not_both setting steps v.fault v.is q.0)
@@ -104,14 +104,14 @@ verdict-one setting steps (Err answer) (Err other) p q =
     let same : v.fault ≡ w.fault = one_verdict setting steps v.fault w.fault v.is w.is in
     ap Err (v.answer_is ∙ ap answers.Illegal same ∙ sym w.answer_is)
 
-pub work_of-one : (found : Contents) (schedule : Option (List ℕ)) (circuit : Parts) (trap : Lists) → IsOne (WorkOf found schedule circuit trap)
+pub work_of-one : (found : Contents) (schedule : Option (List ℕ)) (circuit : CircuitValue) (trap : TrapValue) → IsOne (WorkOf found schedule circuit trap)
 work_of-one found None circuit trap = λ a b p q. p ∙ sym q
 work_of-one found (Some name) circuit trap =
     then-one _ _ (λ a b p q. p ∙ sym q) (λ bytes. then-one _ _ (text-one trap circuit bytes) (λ (pair : Planned). verdict-one (setting_of trap circuit pair.placement) pair.steps))
 
 -- ---- what the simulator answers
 
-pub explained : (setting : Setting) (steps : List (List Action)) (fault : PlayFault) → ExplainsPlay setting steps fault → (illegal_of fault ≡ answers.NoMemory) ⊎ VerdictOf setting steps (Err (illegal_of fault))
+pub explained : (setting : SettingValue) (steps : List (List Action)) (fault : PlayFault) → ExplainsPlay setting steps fault → (illegal_of fault ≡ answers.NoMemory) ⊎ VerdictOf setting steps (Err (illegal_of fault))
 explained setting steps (plays.Broken step action rule) is = inr is
 explained setting steps (plays.Shared step first second) is = inr is
 explained setting steps (plays.Early step op needs) is = inr is
@@ -121,10 +121,10 @@ explained setting steps plays.NoMemory is = inl refl
 
 -- ---- what is said of a text
 
-pub verdict_done : (setting : Setting) (steps : List (List Action)) (text : List ℕ) → Plays setting steps → text ≡ legal_line steps → IsDoneBy (VerdictOf setting steps) text
+pub verdict_done : (setting : SettingValue) (steps : List (List Action)) (text : List ℕ) → Plays setting steps → text ≡ legal_line steps → IsDoneBy (VerdictOf setting steps) text
 verdict_done setting steps text plays said = record { work = judged setting steps; is = (plays, refl); written = said }
 
-pub judged_done : (trap : Lists) (circuit : Parts) (bytes : List ℕ) (placement : List (List Qubit)) (steps : List (List Action)) (text : List ℕ) → Spells trap circuit placement steps bytes
+pub judged_done : (trap : TrapValue) (circuit : CircuitValue) (bytes : List ℕ) (placement : List (List Qubit)) (steps : List (List Action)) (text : List ℕ) → Spells trap circuit placement steps bytes
     → ((other : List (List Qubit)) (more : List (List Action)) → Spells trap circuit other more bytes → (other ≡ placement) × (more ≡ steps))
     → IsDoneBy (VerdictOf (setting_of trap circuit placement) steps) text → IsDoneBy (JudgedText trap circuit bytes) text
 judged_done trap circuit bytes placement steps text spells only done = record {
@@ -133,25 +133,25 @@ judged_done trap circuit bytes placement steps text spells only done = record {
   written = done.written;
 }
 
-pub judged_stopped : (trap : Lists) (circuit : Parts) (bytes : List ℕ) (placement : List (List Qubit)) (steps : List (List Action)) (answer : Answer) → Spells trap circuit placement steps bytes
+pub judged_stopped : (trap : TrapValue) (circuit : CircuitValue) (bytes : List ℕ) (placement : List (List Qubit)) (steps : List (List Action)) (answer : Answer) → Spells trap circuit placement steps bytes
     → ((other : List (List Qubit)) (more : List (List Action)) → Spells trap circuit other more bytes → (other ≡ placement) × (more ≡ steps))
     → (answer ≡ answers.NoMemory) ⊎ VerdictOf (setting_of trap circuit placement) steps (Err answer) → (answer ≡ answers.NoMemory) ⊎ JudgedText trap circuit bytes (Err answer)
 judged_stopped trap circuit bytes placement steps answer spells only (inl memory) = inl memory
 judged_stopped trap circuit bytes placement steps answer spells only (inr verdict) = inr (record { given = Ok (record { placement = placement; steps = steps }); is = (spells, only); goes_on = verdict })
 
-refused_by : (trap : Lists) (circuit : Parts) (bytes : List ℕ) (fault : TextFault) → Refuses trap circuit bytes fault → (no_text fault ≡ answers.NoMemory) ⊎ JudgedText trap circuit bytes (Err (no_text fault))
+refused_by : (trap : TrapValue) (circuit : CircuitValue) (bytes : List ℕ) (fault : TextFault) → Refuses trap circuit bytes fault → (no_text fault ≡ answers.NoMemory) ⊎ JudgedText trap circuit bytes (Err (no_text fault))
 refused_by trap circuit bytes (texts.Line number) bad = inr (record { given = Err (answers.Text number); is = bad; goes_on = refl })
 refused_by trap circuit bytes texts.NoMemory bad = inl refl
 
-pub refused_text : (trap : Lists) (circuit : Parts) (bytes : List ℕ) (fault : TextFault) (answer : Answer) → Refuses trap circuit bytes fault → answer ≡ no_text fault → (answer ≡ answers.NoMemory) ⊎ JudgedText trap circuit bytes (Err answer)
+pub refused_text : (trap : TrapValue) (circuit : CircuitValue) (bytes : List ℕ) (fault : TextFault) (answer : Answer) → Refuses trap circuit bytes fault → answer ≡ no_text fault → (answer ≡ answers.NoMemory) ⊎ JudgedText trap circuit bytes (Err answer)
 refused_text trap circuit bytes fault answer refuses is = subst (λ (a : Answer). (a ≡ answers.NoMemory) ⊎ JudgedText trap circuit bytes (Err a)) (sym is) (refused_by trap circuit bytes fault refuses)
 
-pub said_of : (setting : Setting) (steps : List (List Action)) (fault : PlayFault) (answer : Answer) → ExplainsPlay setting steps fault → answer ≡ illegal_of fault → (answer ≡ answers.NoMemory) ⊎ VerdictOf setting steps (Err answer)
+pub said_of : (setting : SettingValue) (steps : List (List Action)) (fault : PlayFault) (answer : Answer) → ExplainsPlay setting steps fault → answer ≡ illegal_of fault → (answer ≡ answers.NoMemory) ⊎ VerdictOf setting steps (Err answer)
 said_of setting steps fault answer explains is = subst (λ (a : Answer). (a ≡ answers.NoMemory) ⊎ VerdictOf setting steps (Err a)) (sym is) (explained setting steps fault explains)
 
 -- ---- each action has a byte of its text at least
 
-line_some : (setting : Setting) (action : Action) → 1 ≤ length (action_line setting action)
+line_some : (setting : SettingValue) (action : Action) → 1 ≤ length (action_line setting action)
 line_some setting (actions.Split zone end count) = omega arith
 line_some setting (actions.Move from to) = omega arith
 line_some setting (actions.Cross junction from to) = omega arith
@@ -159,11 +159,11 @@ line_some setting (actions.Merge zone end) = omega arith
 line_some setting (actions.Swap zone index) = omega arith
 line_some setting (actions.Op zone op) = omega arith
 
-step_some : (setting : Setting) (step : List Action) → length step ≤ length (flat_map (action_line setting) step)
+step_some : (setting : SettingValue) (step : List Action) → length step ≤ length (flat_map (action_line setting) step)
 step_some setting [] = omega arith
 step_some setting (action ∷ step) = omega (arith, line_some setting action, step_some setting step, length-append (action_line setting action) (flat_map (action_line setting) step))
 
-steps_some : (setting : Setting) (number : ℕ) (steps : List (List Action)) → length (actions_of steps) ≤ length (step_lines setting number steps)
+steps_some : (setting : SettingValue) (number : ℕ) (steps : List (List Action)) → length (actions_of steps) ≤ length (step_lines setting number steps)
 steps_some setting number [] = omega arith
 steps_some setting number (step ∷ steps) =
     let head = codes "step " ++ decimal number ++ codes "\n" in
@@ -171,7 +171,7 @@ steps_some setting number (step ∷ steps) =
     let rest = step_lines setting (number + 1) steps in
     omega (arith, step_some setting step, steps_some setting (number + 1) steps, length-append step (actions_of steps), length-append (head ++ step_text) rest, length-append head step_text)
 
-pub few_actions : (trap : Lists) (circuit : Parts) (placement : List (List Qubit)) (steps : List (List Action)) (bytes : List ℕ) → Spells trap circuit placement steps bytes → length (actions_of steps) ≤ length bytes
+pub few_actions : (trap : TrapValue) (circuit : CircuitValue) (placement : List (List Qubit)) (steps : List (List Action)) (bytes : List ℕ) → Spells trap circuit placement steps bytes → length (actions_of steps) ≤ length bytes
 few_actions trap circuit placement steps bytes spells =
     let setting = setting_of trap circuit placement in
     let head = codes "qccd schedule 1\n" ++ place_lines circuit trap.zones placement ++ codes "steps " ++ decimal (length steps) ++ codes "\n" in

@@ -4,9 +4,9 @@ use Rattle.std.specs.Prelude.{Bool, true, false, IsTrue, nat_le, ◌≤◌, ◌�
 use Rattle.std.proofs.lemmas.Bool.{iff_false, leb-true, le-leb}
 use Rattle.qc_base.specs.Causes.{Rose}
 use Rattle.qc_base.specs.Shelf.{Contents}
-use Rattle.circuit_core.specs.Circuit.{Parts, qubit_count}
-use Rattle.trap_model.specs.Trap.{Lists}
-use Rattle.step_rules.specs.Setting.{Setting, setting_of}
+use Rattle.circuit_core.specs.Circuit.{CircuitValue, qubit_count}
+use Rattle.trap_model.specs.Trap.{TrapValue}
+use Rattle.step_rules.specs.Setting.{SettingValue, setting_of}
 use Rattle.qccd.specs.Filling.{declared_qubits, filled, room}
 use Rattle.qccd.specs.declared.answer.File.{File}
 use Rattle.qccd.specs.declared.answer.File.TheVariants.{Circuit, Trap, Schedule}
@@ -27,7 +27,7 @@ use Rattle.qccd.proofs.Judging.{work_of-one}
 pub at_circuit : (found : Found) (words : List (List ℕ)) (asked : Files) (answer : Answer) → files_of words ≡ Ok asked → CircuitOf (found Circuit asked.circuit) (Err answer) → Prepares found words (Err answer)
 at_circuit found words asked answer request stops = record { given = Ok asked; is = sym request; goes_on = record { given = Err answer; is = stops; goes_on = refl } }
 
-pub at_trap : (found : Found) (words : List (List ℕ)) (asked : Files) (circuit : Parts) (answer : Answer) → files_of words ≡ Ok asked → CircuitOf (found Circuit asked.circuit) (Ok circuit)
+pub at_trap : (found : Found) (words : List (List ℕ)) (asked : Files) (circuit : CircuitValue) (answer : Answer) → files_of words ≡ Ok asked → CircuitOf (found Circuit asked.circuit) (Ok circuit)
     → TrapOf (found Trap asked.trap) (Err answer) → Prepares found words (Err answer)
 at_trap found words asked circuit answer request is stops = record {
   given = Ok asked;
@@ -35,7 +35,7 @@ at_trap found words asked circuit answer request is stops = record {
   goes_on = record { given = Ok circuit; is = is; goes_on = record { given = Err answer; is = stops; goes_on = refl } };
 }
 
-pub at_work : (found : Found) (words : List (List ℕ)) (asked : Files) (circuit : Parts) (trap : Lists) (outcome : Result Work Answer) → files_of words ≡ Ok asked → CircuitOf (found Circuit asked.circuit) (Ok circuit)
+pub at_work : (found : Found) (words : List (List ℕ)) (asked : Files) (circuit : CircuitValue) (trap : TrapValue) (outcome : Result Work Answer) → files_of words ≡ Ok asked → CircuitOf (found Circuit asked.circuit) (Ok circuit)
     → TrapOf (found Trap asked.trap) (Ok trap) → WorkOf (found Schedule) asked.schedule circuit trap outcome → Prepares found words outcome
 at_work found words asked circuit trap outcome request is also works = record {
   given = Ok asked;
@@ -44,14 +44,14 @@ at_work found words asked circuit trap outcome request is also works = record {
 }
 
 -- a placement, or none, as a test of room said
-without : (setting : Setting) (d : Bool) → (d ≡ true → ⊥) → Err answers.Unbuilt ≡ (if d then Ok (make setting) else Err answers.Unbuilt)
+without : (setting : SettingValue) (d : Bool) → (d ≡ true → ⊥) → Err answers.Unbuilt ≡ (if d then Ok (make setting) else Err answers.Unbuilt)
 without setting true none = absurd (none refl)
 without setting false none = refl
 
-pub no_room : (circuit : Parts) (trap : Lists) (b : Bool) → (b ≡ true) ↔ (qubit_count circuit ≤ room trap.zones) → b ≡ false → Err answers.Unbuilt ≡ placed circuit trap
+pub no_room : (circuit : CircuitValue) (trap : TrapValue) (b : Bool) → (b ≡ true) ↔ (qubit_count circuit ≤ room trap.zones) → b ≡ false → Err answers.Unbuilt ≡ placed circuit trap
 no_room circuit trap b tells is = without (setting_of trap circuit (filled trap.zones (declared_qubits circuit))) (nat_le (qubit_count circuit) (room trap.zones)) (λ fits. iff_false tells is (leb-true (qubit_count circuit) (room trap.zones) fits))
 
-pub with_room : (circuit : Parts) (trap : Lists) → qubit_count circuit ≤ room trap.zones → Ok (make (setting_of trap circuit (filled trap.zones (declared_qubits circuit)))) ≡ placed circuit trap
+pub with_room : (circuit : CircuitValue) (trap : TrapValue) → qubit_count circuit ≤ room trap.zones → Ok (make (setting_of trap circuit (filled trap.zones (declared_qubits circuit)))) ≡ placed circuit trap
 with_room circuit trap fits = sym (ap (λ (d : Bool). if d then Ok (make (setting_of trap circuit (filled trap.zones (declared_qubits circuit)))) else Err answers.Unbuilt) (le-leb (qubit_count circuit) (room trap.zones) fits))
 
 -- what was found on a shelf that holds the same
@@ -62,10 +62,10 @@ same_shelf P old now as_told same found tells = subst P same (found (subst (λ (
 missing_circuit : (words : List (List ℕ)) (contents : Contents) (asked : Files) → files_of words ≡ Ok asked → Prepares (all_but Circuit contents) words (Err (answers.ReadFault Circuit))
 missing_circuit words contents asked request = at_circuit (all_but Circuit contents) words asked (answers.ReadFault Circuit) request (record { stages = record { given = Err (answers.ReadFault Circuit); is = refl; goes_on = refl } })
 
-missing_trap : (words : List (List ℕ)) (contents : Contents) (asked : Files) (circuit : Parts) → files_of words ≡ Ok asked → CircuitOf (contents asked.circuit) (Ok circuit) → Prepares (all_but Trap contents) words (Err (answers.ReadFault Trap))
+missing_trap : (words : List (List ℕ)) (contents : Contents) (asked : Files) (circuit : CircuitValue) → files_of words ≡ Ok asked → CircuitOf (contents asked.circuit) (Ok circuit) → Prepares (all_but Trap contents) words (Err (answers.ReadFault Trap))
 missing_trap words contents asked circuit request is = at_trap (all_but Trap contents) words asked circuit (answers.ReadFault Trap) request is (record { given = Err (answers.ReadFault Trap); is = refl; goes_on = refl })
 
-missing_schedule : (words : List (List ℕ)) (contents : Contents) (asked : Files) (name : List ℕ) (circuit : Parts) (trap : Lists) → files_of words ≡ Ok asked → asked.schedule ≡ Some name
+missing_schedule : (words : List (List ℕ)) (contents : Contents) (asked : Files) (name : List ℕ) (circuit : CircuitValue) (trap : TrapValue) → files_of words ≡ Ok asked → asked.schedule ≡ Some name
     → CircuitOf (contents asked.circuit) (Ok circuit) → TrapOf (contents asked.trap) (Ok trap) → Prepares (all_but Schedule contents) words (Err (answers.ReadFault Schedule))
 missing_schedule words contents asked name circuit trap request named is also =
     at_work (all_but Schedule contents) words asked circuit trap (Err (answers.ReadFault Schedule)) request is also
@@ -88,7 +88,7 @@ explains_circuit contents words asked answers.NoMemory request stops = tt
 explains_circuit contents words asked answers.Usage request stops = absurd stops
 explains_circuit contents words asked answers.Unbuilt request stops = at_circuit (all_of contents) words asked answers.Unbuilt request stops
 
-pub explains_trap : (contents : Contents) (words : List (List ℕ)) (asked : Files) (circuit : Parts) (answer : Answer) → files_of words ≡ Ok asked → CircuitOf (contents asked.circuit) (Ok circuit)
+pub explains_trap : (contents : Contents) (words : List (List ℕ)) (asked : Files) (circuit : CircuitValue) (answer : Answer) → files_of words ≡ Ok asked → CircuitOf (contents asked.circuit) (Ok circuit)
     → StopsAt Trap TrapOf (contents asked.trap) answer → Explains contents words answer
 explains_trap contents words asked circuit answers.Ok request is stops = absurd stops
 explains_trap contents words asked circuit (answers.ReadFault which) request is stops = subst (Missing words contents) (sym stops) (missing_trap words contents asked circuit request is)
@@ -102,11 +102,11 @@ explains_trap contents words asked circuit answers.Usage request is stops = absu
 explains_trap contents words asked circuit answers.Unbuilt request is stops = at_trap (all_of contents) words asked circuit answers.Unbuilt request is stops
 
 -- a judgement of the schedule that the words name
-pub at_schedule : (contents : Contents) (words : List (List ℕ)) (asked : Files) (name : List ℕ) (circuit : Parts) (trap : Lists) (outcome : Result Work Answer) → files_of words ≡ Ok asked → asked.schedule ≡ Some name
+pub at_schedule : (contents : Contents) (words : List (List ℕ)) (asked : Files) (name : List ℕ) (circuit : CircuitValue) (trap : TrapValue) (outcome : Result Work Answer) → files_of words ≡ Ok asked → asked.schedule ≡ Some name
     → CircuitOf (contents asked.circuit) (Ok circuit) → TrapOf (contents asked.trap) (Ok trap) → JudgedOf trap circuit (contents name) outcome → Prepares (all_of contents) words outcome
 at_schedule contents words asked name circuit trap outcome request named is also judges = at_work (all_of contents) words asked circuit trap outcome request is also (rw named judges)
 
-pub explains_schedule : (contents : Contents) (words : List (List ℕ)) (asked : Files) (name : List ℕ) (circuit : Parts) (trap : Lists) (answer : Answer) → files_of words ≡ Ok asked → asked.schedule ≡ Some name
+pub explains_schedule : (contents : Contents) (words : List (List ℕ)) (asked : Files) (name : List ℕ) (circuit : CircuitValue) (trap : TrapValue) (answer : Answer) → files_of words ≡ Ok asked → asked.schedule ≡ Some name
     → CircuitOf (contents asked.circuit) (Ok circuit) → TrapOf (contents asked.trap) (Ok trap) → StopsAt Schedule (JudgedOf trap circuit) (contents name) answer → Explains contents words answer
 explains_schedule contents words asked name circuit trap answers.Ok request named is also stops = absurd stops
 explains_schedule contents words asked name circuit trap (answers.ReadFault which) request named is also stops = subst (Missing words contents) (sym stops) (missing_schedule words contents asked name circuit trap request named is also)
@@ -120,14 +120,14 @@ explains_schedule contents words asked name circuit trap answers.Usage request n
 explains_schedule contents words asked name circuit trap answers.Unbuilt request named is also stops = at_schedule contents words asked name circuit trap (Err answers.Unbuilt) request named is also stops
 
 -- a compilation that ends without a text
-pub explains_compiled : (contents : Contents) (words : List (List ℕ)) (asked : Files) (circuit : Parts) (trap : Lists) (answer : Answer) → files_of words ≡ Ok asked → asked.schedule ≡ None
+pub explains_compiled : (contents : Contents) (words : List (List ℕ)) (asked : Files) (circuit : CircuitValue) (trap : TrapValue) (answer : Answer) → files_of words ≡ Ok asked → asked.schedule ≡ None
     → CircuitOf (contents asked.circuit) (Ok circuit) → TrapOf (contents asked.trap) (Ok trap) → (answer ≡ answers.NoMemory) ⊎ ((answer ≡ answers.Unbuilt) × (Err answers.Unbuilt ≡ placed circuit trap)) → Explains contents words answer
 explains_compiled contents words asked circuit trap answer request named is also (inl no_memory) = subst (Explains contents words) (sym no_memory) tt
 explains_compiled contents words asked circuit trap answer request named is also (inr unbuilt) =
     subst (Explains contents words) (sym unbuilt.0) (at_work (all_of contents) words asked circuit trap (Err answers.Unbuilt) request is also (rw named unbuilt.1))
 
 -- what is written
-pub compiled_done : (contents : Contents) (words : List (List ℕ)) (asked : Files) (circuit : Parts) (trap : Lists) (text : List ℕ) → files_of words ≡ Ok asked → asked.schedule ≡ None
+pub compiled_done : (contents : Contents) (words : List (List ℕ)) (asked : Files) (circuit : CircuitValue) (trap : TrapValue) (text : List ℕ) → files_of words ≡ Ok asked → asked.schedule ≡ None
     → CircuitOf (contents asked.circuit) (Ok circuit) → TrapOf (contents asked.trap) (Ok trap) → IsDoneBy (Is (placed circuit trap)) text → IsDone contents words text
 compiled_done contents words asked circuit trap text request named is also done = record {
   work = done.work;
@@ -135,7 +135,7 @@ compiled_done contents words asked circuit trap text request named is also done 
   written = done.written;
 }
 
-pub checked_done : (contents : Contents) (words : List (List ℕ)) (asked : Files) (name : List ℕ) (circuit : Parts) (trap : Lists) (text : List ℕ) → files_of words ≡ Ok asked → asked.schedule ≡ Some name
+pub checked_done : (contents : Contents) (words : List (List ℕ)) (asked : Files) (name : List ℕ) (circuit : CircuitValue) (trap : TrapValue) (text : List ℕ) → files_of words ≡ Ok asked → asked.schedule ≡ Some name
     → CircuitOf (contents asked.circuit) (Ok circuit) → TrapOf (contents asked.trap) (Ok trap) → IsDoneBy (JudgedOf trap circuit (contents name)) text → IsDone contents words text
 checked_done contents words asked name circuit trap text request named is also done = record {
   work = done.work;

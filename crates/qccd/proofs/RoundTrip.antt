@@ -10,9 +10,9 @@ use Rattle.qc_base.specs.Shelf.{Contents}
 use Rattle.qc_base.specs.declared.ids.Ion.{Ion}
 use Rattle.qc_base.specs.declared.ids.Qubit.{Qubit}
 use Rattle.circuit_core.specs.declared.op.Op.{Op}
-use Rattle.circuit_core.specs.Circuit.{Parts, IsCircuit, qubit_count}
-use Rattle.circuit_core.specs.Order.{is_barrier}
-use Rattle.trap_model.specs.Trap.{Lists, names_of, slot_at}
+use Rattle.circuit_core.specs.Circuit.{CircuitValue, IsCircuit, qubit_count}
+use Rattle.circuit_core.specs.Op.{is_barrier}
+use Rattle.trap_model.specs.Trap.{TrapValue, names_of, slot_at}
 use Rattle.trap_model.specs.Names.{is_name}
 use Rattle.trap_model.specs.Build.{IsTrap}
 use Rattle.trap_model.specs.Channels.{move_channel, cross_channel}
@@ -24,8 +24,8 @@ use Rattle.step_rules.specs.declared.action.Action.TheVariants as actions
 use Rattle.step_rules.specs.declared.action.Rule.{Rule}
 use Rattle.step_rules.specs.declared.action.Rule.TheVariants as rules
 use Rattle.step_rules.specs.Placement.{IsPlacement, start_of}
-use Rattle.step_rules.specs.Setting.{Setting, setting_of}
-use Rattle.step_rules.specs.Tests.{test, first_broken, move_tests, cross_tests, is_performed, is_able_for, are_among, Passes}
+use Rattle.step_rules.specs.Setting.{SettingValue, setting_of}
+use Rattle.step_rules.specs.Guards.{guard, first_broken, move_guards, cross_guards, is_performed, is_able_for, are_among, Passes}
 use Rattle.step_rules.specs.Steps.{after, after_step}
 use Rattle.step_rules.specs.Play.{AreLegal, Plays}
 use Rattle.step_rules.proofs.Moved.{any_limit_small, swap_passed}
@@ -67,24 +67,24 @@ went : {X Y : Type 0} (first : Result X Answer → Type 0) (next : X → Result 
 went first next y stages = went_on first next y stages.given stages.is stages.goes_on
 
 -- a circuit and a trap with room for it, and the setting that is made of them
-record Made (contents : Contents) (circuit_name trap_name : List ℕ) (setting : Setting) : Type 0 where
-  circuit : Parts
-  trap : Lists
+record Made (contents : Contents) (circuit_name trap_name : List ℕ) (setting : SettingValue) : Type 0 where
+  circuit : CircuitValue
+  trap : TrapValue
   of_circuit : CircuitOf (contents circuit_name) (Ok circuit)
   of_trap : TrapOf (contents trap_name) (Ok trap)
   fits : qubit_count circuit ≤ room trap.zones
   setting_is : setting ≡ setting_of trap circuit (filled trap.zones (declared_qubits circuit))
 
-same_setting : (a b : Setting) → ◌≡◌ {A = Result Work Answer} (Ok (make a)) (Ok (make b)) → a ≡ b
+same_setting : (a b : SettingValue) → ◌≡◌ {A = Result Work Answer} (Ok (make a)) (Ok (make b)) → a ≡ b
 same_setting a b e = cc
 
 -- a placement, as the test of room said
-with_room : (b : Bool) (setting made : Setting) → Ok (make setting) ≡ (if b then Ok (make made) else Err answers.Unbuilt) → (b ≡ true) × (setting ≡ made)
+with_room : (b : Bool) (setting made : SettingValue) → Ok (make setting) ≡ (if b then Ok (make made) else Err answers.Unbuilt) → (b ≡ true) × (setting ≡ made)
 with_room true setting made e = (refl, same_setting setting made e)
 with_room false setting made e = absurd cc
 
 -- what the files of a compilation are
-made_of : (contents : Contents) (circuit_name trap_name : List ℕ) (asked : Files) (setting : Setting) → asked ≡ to_compile circuit_name trap_name
+made_of : (contents : Contents) (circuit_name trap_name : List ℕ) (asked : Files) (setting : SettingValue) → asked ≡ to_compile circuit_name trap_name
     → Then (CircuitOf (contents asked.circuit)) (λ circuit. Then (TrapOf (contents asked.trap)) (λ trap. WorkOf contents asked.schedule circuit trap)) (Ok (make setting)) → Made contents circuit_name trap_name setting
 made_of contents circuit_name trap_name asked setting same stages =
     let stages = subst (λ (a : Files). Then (CircuitOf (contents a.circuit)) (λ circuit. Then (TrapOf (contents a.trap)) (λ trap. WorkOf contents a.schedule circuit trap)) (Ok (make setting))) same stages in
@@ -103,7 +103,7 @@ made_of contents circuit_name trap_name asked setting same stages =
 same_files : (a b : Files) → ◌≡◌ {A = Result Files Answer} (Ok a) (Ok b) → a ≡ b
 same_files a b e = cc
 
-made : (contents : Contents) (words : List (List ℕ)) (circuit_name trap_name : List ℕ) (setting : Setting) → files_of words ≡ Ok (to_compile circuit_name trap_name) → Prepares (all_of contents) words (Ok (make setting))
+made : (contents : Contents) (words : List (List ℕ)) (circuit_name trap_name : List ℕ) (setting : SettingValue) → files_of words ≡ Ok (to_compile circuit_name trap_name) → Prepares (all_of contents) words (Ok (make setting))
     → Made contents circuit_name trap_name setting
 made contents words circuit_name trap_name setting request prepares =
     let first = went _ _ (make setting) prepares in
@@ -111,23 +111,23 @@ made contents words circuit_name trap_name setting request prepares =
 
 -- ---- the circuit and the trap are right
 
-found : (o : Option Parts) (circuit : Parts) → Ok circuit ≡ ok_or o answers.Unbuilt → o ≡ Some circuit
+found : (o : Option CircuitValue) (circuit : CircuitValue) → Ok circuit ≡ ok_or o answers.Unbuilt → o ≡ Some circuit
 found None circuit e = absurd cc
 found (Some other) circuit e = cc
 
-circuit_right : (content : Option (List ℕ)) (circuit : Parts) → CircuitOf content (Ok circuit) → IsCircuit circuit
+circuit_right : (content : Option (List ℕ)) (circuit : CircuitValue) → CircuitOf content (Ok circuit) → IsCircuit circuit
 circuit_right content circuit is =
     let bytes = went _ _ circuit is.stages in
     let program = went _ _ circuit bytes.goes_on in
     flat_is_circuit program.x circuit (found (flat program.x) circuit program.goes_on)
 
-trap_zone : (content : Option (List ℕ)) (trap : Lists) → TrapOf content (Ok trap) → IsFullZone trap
+trap_zone : (content : Option (List ℕ)) (trap : TrapValue) → TrapOf content (Ok trap) → IsFullZone trap
 trap_zone content trap is = let bytes = went _ _ trap is in bytes.goes_on.0.zone
 
 named : (capacity : ℕ) → All (λ name. IsTrue (is_name name)) (names_of (one_zone capacity))
 named capacity = All-cons (λ name. IsTrue (is_name name)) (codes "A") [] refl (All-nil (λ name. IsTrue (is_name name)))
 
-trap_right : (trap : Lists) → IsFullZone trap → IsTrap trap
+trap_right : (trap : TrapValue) → IsFullZone trap → IsTrap trap
 trap_right trap zone =
     let one : ℕ = zone.capacity in
     subst IsTrap (sym zone.trap_is) (built_trap (one_zone one) (one_zone one) (named one) (built one (omega (arith, zone.some)) zone.few))
@@ -156,7 +156,7 @@ stopped : (there : Bool) (p q : Rule) → (if there then Some q else Some p) ≡
 stopped true p q e = cc
 stopped false p q e = cc
 
-passed_all : (a b c d : Bool) (p q r s : Rule) → first_broken (test a p ∷ test b q ∷ test c r ∷ test d s ∷ []) ≡ None → (a ≡ true) × (b ≡ true)
+passed_all : (a b c d : Bool) (p q r s : Rule) → first_broken (guard a p ∷ guard b q ∷ guard c r ∷ guard d s ∷ []) ≡ None → (a ≡ true) × (b ≡ true)
 passed_all true true c d p q r s e = (refl, refl)
 passed_all true false c d p q r s e = absurd cc
 passed_all false b c d p q r s e = absurd cc
@@ -189,15 +189,15 @@ step_short capacity config (action ∷ step) short = step_short capacity (after 
 
 -- ---- an action that passes is known
 
-action_known : (capacity : ℕ) (circuit : Parts) (placement : List (List Qubit)) (config : List (List Ion)) (action : Action) → AreShort config
+action_known : (capacity : ℕ) (circuit : CircuitValue) (placement : List (List Qubit)) (config : List (List Ion)) (action : Action) → AreShort config
     → Passes (setting_of (one_zone capacity) circuit placement) config action → IsKnown (one_zone capacity) circuit action
 action_known capacity circuit placement config (actions.Split zone end count) short passes = absurd (stopped _ rules.NoPlace rules.NoJoin passes)
 action_known capacity circuit placement config (actions.Move from to) short passes =
     absurd (stopped _ rules.NoPlace rules.NoJoin
-    (subst (λ (way : Option Channel). first_broken (move_tests (one_zone capacity) config from.0 to.0 way) ≡ None) (no_move capacity from.0 to.0) passes))
+    (subst (λ (channel : Option Channel). first_broken (move_guards (one_zone capacity) config from.0 to.0 channel) ≡ None) (no_move capacity from.0 to.0) passes))
 action_known capacity circuit placement config (actions.Cross junction from to) short passes =
     absurd (stopped _ rules.NoPlace rules.NoJoin
-    (subst (λ (way : Option Channel). first_broken (cross_tests (one_zone capacity) config junction.0 from.0 to.0 way) ≡ None) (no_crossing capacity junction.0 from.0 to.0) passes))
+    (subst (λ (channel : Option Channel). first_broken (cross_guards (one_zone capacity) config junction.0 from.0 to.0 channel) ≡ None) (no_crossing capacity junction.0 from.0 to.0) passes))
 action_known capacity circuit placement config (actions.Merge zone end) short passes = absurd (stopped _ rules.NoPlace rules.NoJoin passes)
 action_known capacity circuit placement config (actions.Swap zone index) short passes =
     let facts = swap_passed (one_zone capacity) config zone.0 index passes in
@@ -208,7 +208,7 @@ action_known capacity circuit placement config (actions.Op zone op) short passes
     let there : zone.0 < 1 = ltb-true zone.0 1 facts.0 in
     (omega arith, within circuit.ops (λ (o : Op). not (is_barrier o)) op.0 facts.1)
 
-all_known : (capacity : ℕ) (circuit : Parts) (placement : List (List Qubit)) (config : List (List Ion)) (steps : List (List Action)) → AreShort config
+all_known : (capacity : ℕ) (circuit : CircuitValue) (placement : List (List Qubit)) (config : List (List Ion)) (steps : List (List Action)) → AreShort config
     → AreLegal (setting_of (one_zone capacity) circuit placement) config steps → All (All (IsKnown (one_zone capacity) circuit)) steps
 all_known capacity circuit placement config [] short legal = All-nil (All (IsKnown (one_zone capacity) circuit))
 all_known capacity circuit placement config (step ∷ steps) short legal =
@@ -217,18 +217,18 @@ all_known capacity circuit placement config (step ∷ steps) short legal =
     All-cons (All (IsKnown (one_zone capacity) circuit)) step steps known (all_known capacity circuit placement (after_step (one_zone capacity) config step) steps (step_short capacity config step short) legal.1)
 
 -- a schedule that plays names nothing unknown
-plays_known : (trap : Lists) (circuit : Parts) (placement : List (List Qubit)) (steps : List (List Action)) → IsFullZone trap → IsPlacement trap circuit placement
+plays_known : (trap : TrapValue) (circuit : CircuitValue) (placement : List (List Qubit)) (steps : List (List Action)) → IsFullZone trap → IsPlacement trap circuit placement
     → Plays (setting_of trap circuit placement) steps → All (All (IsKnown trap circuit)) steps
 plays_known trap circuit placement steps zone placed plays =
     let right : IsTrap trap = trap_right trap zone in
     let short : AreShort (start_of trap placement) = λ place. omega (arith, start_within trap placement placed.room place, any_limit_small trap place right) in
     let same : one_zone zone.capacity ≡ trap = sym zone.trap_is in
-    subst (λ (t : Lists). AreShort (start_of t placement) → AreLegal (setting_of t circuit placement) (start_of t placement) steps → All (All (IsKnown t circuit)) steps) same
+    subst (λ (t : TrapValue). AreShort (start_of t placement) → AreLegal (setting_of t circuit placement) (start_of t placement) steps → All (All (IsKnown t circuit)) steps) same
     (all_known zone.capacity circuit placement (start_of (one_zone zone.capacity) placement) steps) short plays.legal
 
 -- ---- each step has a byte of the text at least
 
-lines_some : (setting : Setting) (number : ℕ) (steps : List (List Action)) → length steps ≤ length (step_lines setting number steps)
+lines_some : (setting : SettingValue) (number : ℕ) (steps : List (List Action)) → length steps ≤ length (step_lines setting number steps)
 lines_some setting number [] = omega arith
 lines_some setting number (step ∷ steps) =
     let head = codes "step " ++ decimal number ++ codes "\n" in
@@ -236,7 +236,7 @@ lines_some setting number (step ∷ steps) =
     let rest = step_lines setting (number + 1) steps in
     omega (arith, lines_some setting (number + 1) steps, length-append (head ++ step_text) rest, length-append head step_text)
 
-few_steps : (setting : Setting) (steps : List (List Action)) → length steps ≤ length (schedule_text setting steps)
+few_steps : (setting : SettingValue) (steps : List (List Action)) → length steps ≤ length (schedule_text setting steps)
 few_steps setting steps =
     let head = codes "qccd schedule 1\n" ++ place_lines setting.circuit setting.trap.zones setting.placement ++ codes "steps " ++ decimal (length steps) ++ codes "\n" in
     let body = step_lines setting 1 steps in
@@ -244,7 +244,7 @@ few_steps setting steps =
 
 -- ---- the text is read and judged
 
-spelled : (trap : Lists) (circuit : Parts) (placement : List (List Qubit)) (steps : List (List Action)) (text : List ℕ) → IsFullZone trap → IsPlacement trap circuit placement
+spelled : (trap : TrapValue) (circuit : CircuitValue) (placement : List (List Qubit)) (steps : List (List Action)) (text : List ℕ) → IsFullZone trap → IsPlacement trap circuit placement
     → Plays (setting_of trap circuit placement) steps → text ≡ schedule_text (setting_of trap circuit placement) steps → length text ≤ 2 ^ 30 → Spells trap circuit placement steps text
 spelled trap circuit placement steps text zone placed plays is few = record {
   placed = placed;
@@ -253,7 +253,7 @@ spelled trap circuit placement steps text zone placed plays is few = record {
   spelled = is;
 }
 
-judged_text : (trap : Lists) (circuit : Parts) (placement : List (List Qubit)) (steps : List (List Action)) (text : List ℕ) (content : Option (List ℕ)) → IsTrap trap → IsCircuit circuit
+judged_text : (trap : TrapValue) (circuit : CircuitValue) (placement : List (List Qubit)) (steps : List (List Action)) (text : List ℕ) (content : Option (List ℕ)) → IsTrap trap → IsCircuit circuit
     → Spells trap circuit placement steps text → Plays (setting_of trap circuit placement) steps → content ≡ Some text → length text ≤ 2 ^ 30
     → JudgedOf trap circuit content (Ok (judged (setting_of trap circuit placement) steps))
 judged_text trap circuit placement steps text content t c spells plays there few = record {
@@ -267,7 +267,7 @@ judged_text trap circuit placement steps text content t c spells plays there few
 }
 
 -- the text is put on the shelf after the compilation, which leaves the circuit and the trap
-pub judged_legal : (before later : Contents) (words check_words : List (List ℕ)) (circuit trap schedule text : List ℕ) (setting : Setting)
+pub judged_legal : (before later : Contents) (words check_words : List (List ℕ)) (circuit trap schedule text : List ℕ) (setting : SettingValue)
     → files_of words ≡ Ok (to_compile circuit trap) → files_of check_words ≡ Ok (to_check circuit trap schedule)
     → Prepares (all_of before) words (Ok (make setting)) → IsTextOf setting text
     → later circuit ≡ before circuit → later trap ≡ before trap
@@ -280,13 +280,13 @@ judged_legal before later words check_words circuit trap schedule text setting r
     let zone = trap_zone (before trap) of.trap of.of_trap in
     let placement = filled of.trap.zones (declared_qubits of.circuit) in
     let placed = subst (IsPlacement of.trap of.circuit) (sym (filled_one of.trap of.circuit zone of.fits)) (is_placement of.trap of.circuit zone of.fits) in
-    let plays = subst (λ (s : Setting). Plays s written.schedule) of.setting_is written.plays in
-    let text_is = written.text_is ∙ ap (λ (s : Setting). schedule_text s written.schedule) of.setting_is in
+    let plays = subst (λ (s : SettingValue). Plays s written.schedule) of.setting_is written.plays in
+    let text_is = written.text_is ∙ ap (λ (s : SettingValue). schedule_text s written.schedule) of.setting_is in
     let spells = spelled of.trap of.circuit placement written.schedule text zone placed plays text_is few in
     let judges = judged_text of.trap of.circuit placement written.schedule text (later schedule) (trap_right of.trap zone) (circuit_right (before circuit) of.circuit of.of_circuit) spells plays there few in
     record {
       steps = written.schedule;
-      judges = subst (λ (s : Setting). Prepares (all_of later) check_words (Ok (judged s written.schedule))) (sym of.setting_is)
+      judges = subst (λ (s : SettingValue). Prepares (all_of later) check_words (Ok (judged s written.schedule))) (sym of.setting_is)
           (at_schedule later check_words (to_check circuit trap schedule) schedule of.circuit of.trap _ check_request refl of_circuit of_trap judges);
       text_is = written.text_is;
     }

@@ -11,7 +11,7 @@ use Rattle.std.proofs.lemmas.Option.{none-some}
 use Rattle.std.proofs.lemmas.Fmt.{decimal_is_IsNumeral}
 use Rattle.std.proofs.lemmas.Slice.Eq.{bytes_eq-Decides}
 use Rattle.std.proofs.lemmas.Str.Pattern.{starts_text}
-use Rattle.qccd.specs.Request.{number_of, behind}
+use Rattle.qccd.specs.Request.{number_of, strip_prefix}
 use denote.Ref.{Bor}
 
 value_is : (word : List ℕ) (n : ℕ) → n < 2 ^ 64 → word ≡ decimal n → digits_value 10 word ≡ n
@@ -40,10 +40,10 @@ pub number_found : (word : List ℕ) (r : Option ℕ) → IfSome r (λ n. word �
 number_found word None found fits only = sym (number_is_none word (λ n small e. none-some n (only n small e)))
 number_found word (Some n) found fits only = sym (number_is word n fits found)
 
-pub behind_is : (front word : List ℕ) (r : Option (Bor (List ℕ))) → MatchOption r (FindsTextPrefix front word None) (λ x. (n : ℕ) × FindsTextPrefix front word (Some n) × (x.now ≡ drop n word) × (length x.now + n ≡ length word))
-    → option_map (λ x. x.now) r ≡ behind front word
-behind_is front word None h = let no : starts_with nat_eq word front ≡ false = sym (starts_text false front word h) in rw no refl
-behind_is front word (Some x) h =
+pub prefix_is : (front word : List ℕ) (r : Option (Bor (List ℕ))) → MatchOption r (FindsTextPrefix front word None) (λ x. (n : ℕ) × FindsTextPrefix front word (Some n) × (x.now ≡ drop n word) × (length x.now + n ≡ length word))
+    → option_map (λ x. x.now) r ≡ strip_prefix front word
+prefix_is front word None h = let no : starts_with nat_eq word front ≡ false = sym (starts_text false front word h) in rw no refl
+prefix_is front word (Some x) h =
     let found = h.1 in
     let has : starts_with nat_eq word front ≡ true = sym (starts_text true front word (h.0, found, subst (IsCharBoundary word) (sym found.0) found.2)) in
     rw (has, ← found.0) (ap (λ (l : List ℕ). Some l) h.2)

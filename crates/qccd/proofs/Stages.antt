@@ -5,7 +5,7 @@ use Rattle.std.proofs.lemmas.Option.{same_Some, none-some}
 use Rattle.qccd.specs.declared.answer.File.{File}
 use Rattle.qccd.specs.declared.answer.Answer.{Answer}
 use Rattle.qccd.specs.declared.answer.Answer.TheVariants as answers
-use Rattle.circuit_core.specs.Circuit.{Parts}
+use Rattle.circuit_core.specs.Circuit.{CircuitValue}
 use Rattle.qasm_read.specs.declared.fault.QasmFault.{QasmFault}
 use Rattle.qasm_read.specs.declared.fault.QasmFault.TheVariants as faults
 use Rattle.qasm_read.specs.declared.statement.Placed.{Placed}
@@ -48,7 +48,7 @@ circuit_of-one content a b p q = then-one _ _ (λ a b p q. p ∙ sym q) (λ byte
 
 -- ---- the circuit of a file
 
-pub circuit_is : (content : Option (List ℕ)) (bytes shown : List ℕ) (program : List Placed) (outcome : Result Parts Answer) → bytes_of files.Circuit content ≡ Ok bytes → shown ≡ bytes
+pub circuit_is : (content : Option (List ℕ)) (bytes shown : List ℕ) (program : List Placed) (outcome : Result CircuitValue Answer) → bytes_of files.Circuit content ≡ Ok bytes → shown ≡ bytes
     → IsReading shown (Ok program) → outcome ≡ circuit_of program → CircuitOf content outcome
 circuit_is content bytes shown program outcome whole same reading is = record {
   stages = record {
@@ -76,8 +76,8 @@ circuit_is_no_program content bytes shown fault whole same reading = record {
   };
 }
 
-pub found_is : (shown program : List Placed) (read : Option Parts) (outcome : Option Parts) → shown ≡ program → read ≡ flat shown → read ≡ outcome → ok_or outcome answers.Unbuilt ≡ circuit_of program
-found_is shown program read outcome same is as_read = ap (λ (o : Option Parts). ok_or o answers.Unbuilt) (sym as_read ∙ is ∙ ap flat same)
+pub found_is : (shown program : List Placed) (read : Option CircuitValue) (outcome : Option CircuitValue) → shown ≡ program → read ≡ flat shown → read ≡ outcome → ok_or outcome answers.Unbuilt ≡ circuit_of program
+found_is shown program read outcome same is as_read = ap (λ (o : Option CircuitValue). ok_or o answers.Unbuilt) (sym as_read ∙ is ∙ ap flat same)
 
 refused_by : (content : Option (List ℕ)) (bytes shown : List ℕ) (fault : QasmFault) → bytes_of files.Circuit content ≡ Ok bytes → shown ≡ bytes
     → UnlessMemory (IsReading shown) (Err fault) → StopsAt files.Circuit CircuitOf content (refusal_of fault)

@@ -1,10 +1,10 @@
 -- The programs that are built: one quantum register, and then operations CX on two different qubits of it.
-use Rattle.std.specs.Prelude.{ℕ, ◌==◌, nat_le, nat_lt, Bool, true, ◌&&◌, List, [], ◌∷◌, length, Option, Some, None, Result, if◌then◌else◌}
+use Rattle.std.specs.Prelude.{◌≡◌, ◌≢◌, ℕ, ◌<◌, ◌==◌, nat_le, nat_lt, Bool, true, ◌&&◌, List, [], ◌∷◌, length, Option, Some, None, Result, if◌then◌else◌}
 use Rattle.std.specs.Option.{ok_or}
 use Rattle.std.specs.Str.{bytes_eq}
 use Rattle.circuit_core.specs.declared.op.Op.{Op}
 use Rattle.circuit_core.specs.declared.op.Op.TheVariants.{Cx}
-use Rattle.circuit_core.specs.Circuit.{Parts}
+use Rattle.circuit_core.specs.Circuit.{CircuitValue}
 use Rattle.circuit_core.specs.Identifier.{is_identifier}
 use Rattle.qasm_read.specs.declared.arg.Arg.{Arg}
 use Rattle.qasm_read.specs.declared.qop.Qop.{Qop}
@@ -55,24 +55,33 @@ ops_of name size (placed ∷ rest) = do
 abbrev pub is_within : List ℕ → ℕ → List Placed → Bool
 is_within name size statements = is_identifier name && nat_le 1 size && nat_le size 128 && nat_le (length statements) 10000
 
-abbrev pub register_circuit : List ℕ → ℕ → List Op → Parts
+abbrev pub register_circuit : List ℕ → ℕ → List Op → CircuitValue
 register_circuit name size ops = record { qregs = record { name = name; size = size } ∷ []; cregs = []; ops = ops }
 
--- a circuit of one register, and behind it the operations
-abbrev pub circuit_on : List ℕ → ℕ → List Placed → Option Parts
+-- a circuit of one register, and after it the operations
+abbrev pub circuit_on : List ℕ → ℕ → List Placed → Option CircuitValue
 circuit_on name size statements = if is_within name size statements then (do
   ops ← ops_of name size statements
   Some (register_circuit name size ops)) else None
 
-abbrev pub circuit_from : Statement → List Placed → Option Parts
+abbrev pub circuit_from : Statement → List Placed → Option CircuitValue
 circuit_from (statements.Register true name size) rest = circuit_on name size rest
 circuit_from other rest = None
 
 -- the circuit of a program of that form
-abbrev pub flat : List Placed → Option Parts
+abbrev pub flat : List Placed → Option CircuitValue
 flat [] = None
 flat (first ∷ rest) = circuit_from first.statement rest
 
 -- other programs aren't built yet
-abbrev pub circuit_of : List Placed → Result Parts Answer
+abbrev pub circuit_of : List Placed → Result CircuitValue Answer
 circuit_of program = ok_or (flat program) answers.Unbuilt
+
+-- CX without a condition on two different qubits of so many
+pub record IsCxOn (size : ℕ) (op : Op) : Type 0 where
+  pub control : ℕ
+  pub target : ℕ
+  pub is : Cx (record { 0 = control }) (record { 0 = target }) None ≡ op
+  pub first : control < size
+  pub second : target < size
+  pub other : control ≢ target

@@ -8,7 +8,7 @@ abbrev pub digits_of : Option ℕ → List ℕ
 digits_of None = []
 digits_of (Some number) = decimal number
 
--- the number in decimal where there is one, and the text behind it
+-- the number in decimal where there is one, and the text after it
 abbrev pub part_text : Part → List ℕ
 part_text part = digits_of part.number ++ part.text.now
 

@@ -2,13 +2,13 @@
 use Rattle.std.specs.Prelude.{◌≡◌, ℕ, List, Ok}
 use Rattle.qc_base.specs.Shelf.{Contents}
 use Rattle.step_rules.specs.declared.action.Action.{Action}
-use Rattle.step_rules.specs.Setting.{Setting}
+use Rattle.step_rules.specs.Setting.{SettingValue}
 use Rattle.schedule_text.specs.Text.{schedule_text}
 use Rattle.qccd.specs.Work.{judged}
 use Rattle.qccd.specs.Prepare.{all_of, Prepares}
 
 -- the text is that of these steps from the placement of the setting, and the check that the words ask for judges them legal
-pub record IsJudgedLegal (contents : Contents) (words : List (List ℕ)) (setting : Setting) (text : List ℕ) : Type 0 where
+pub record IsJudgedLegal (contents : Contents) (words : List (List ℕ)) (setting : SettingValue) (text : List ℕ) : Type 0 where
   pub steps : List (List Action)
   pub judges : Prepares (all_of contents) words (Ok (judged setting steps))
   pub text_is : text ≡ schedule_text setting steps

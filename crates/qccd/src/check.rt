@@ -11,8 +11,7 @@ ghost use Rattle.qccd.specs.Compile.{is_operation, legal_line, IsDoneBy};
 
 use crate::answer::Answer;
 use circuit_core::Circuit;
-use itoa::Buffer;
-use qc_base::NoMemory;
+use qc_base::{NoMemory, push_number};
 use schedule_play::{PlayFault, play};
 use schedule_text::TextFault;
 use std::alloc::Global;
@@ -66,10 +65,8 @@ fn operation_count(steps: &[Step]) -> u64
 fn push_count(out: &mut Vec<u8>, text: &[u8], count: u64) -> Result<(), NoMemory>
     ensures { OnOk result (out.new.items ≡ out.old.items ++ text.now ++ decimal count) }
 {
-    let mut buffer = Buffer::new();
     out.extend_from_slice(text)?;
-    out.extend_from_slice(buffer.format(count).as_bytes())?;
-    Ok(())
+    push_number(out, count)
 }
 
 /// What is said of a schedule that plays.

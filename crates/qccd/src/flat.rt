@@ -1,13 +1,11 @@
 //! The circuits of the programs that are built.
 
-ghost use Rattle.std.specs.Prelude.{◌≡◌, ℕ, ◌≤◌, IfOk, IsTrue, All, length};
+ghost use Rattle.std.specs.Prelude.{◌≡◌, ℕ, ◌≤◌, ◌∷◌, [], IfOk, IsTrue, All, length};
 ghost use Rattle.std.specs.Option.{option_map};
-ghost use Rattle.circuit_core.specs.Circuit.{IsOpOn};
 ghost use Rattle.circuit_core.specs.Identifier.{is_identifier};
-ghost use Rattle.qccd.specs.Flat.{index_of, cx_on, cx_of, op_of, ops_of, is_within, register_circuit, circuit_on, flat};
+ghost use Rattle.qccd.specs.Flat.{IsCxOn, index_of, cx_on, cx_of, op_of, ops_of, is_within, register_circuit, circuit_on, flat};
 
-use crate::identifier::is_identifier;
-use circuit_core::{Circuit, Op, Reg};
+use circuit_core::{Circuit, Op, Reg, is_identifier};
 use qasm_read::{Arg, Placed, Qop, Statement};
 use qc_base::{Name, NoMemory, Qubit};
 use std::alloc::Global;
@@ -91,6 +89,16 @@ fn is_within(name: &[u8], size: u64, statements: &[Placed]) -> bool
     is_identifier(name) && 1 <= size && size <= MOST_QUBITS && statements.len() <= MOST_OPERATIONS
 }
 
+// The one register.
+fn one_reg(alloc: Global, name: &Name, size: u32) -> Result<Vec<Reg>, NoMemory>
+    ensures { IfOk result (λ regs. regs.items ≡ record { name = name.now; size = size } ∷ []) }
+{
+    let name = name.copy(alloc)?;
+    let mut regs = Vec::new(alloc);
+    regs.push(Reg { name, size })?;
+    Ok(regs)
+}
+
 /// A circuit on one register.
 fn register_circuit(
     alloc: Global,
@@ -102,13 +110,12 @@ fn register_circuit(
     requires some { 1 ≤ size }
     requires most { size ≤ 128 }
     requires few { length ops.items ≤ 10000 }
-    requires fit { All (IsOpOn size) ops.items }
+    requires fit { All (IsCxOn size) ops.items }
     ensures { IfOk result (λ circuit. circuit ≡ register_circuit name.now size ops.items) }
 {
-    let name = name.copy(alloc)?;
-    let mut qregs = Vec::new(alloc);
-    qregs.push(Reg { name, size })?;
-    Ok(Circuit::new(qregs, Vec::new(alloc), ops))
+    let qregs = one_reg(alloc, name, size)?;
+    let cregs = Vec::new(alloc);
+    Ok(Circuit::new(qregs, cregs, ops))
 }
 
 fn circuit_on(

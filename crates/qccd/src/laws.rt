@@ -2,7 +2,7 @@
 
 ghost use Rattle.std.specs.Prelude.{◌≡◌, ℕ, ◌≤◌, ◌^◌, List, length, Some, Result, Ok};
 ghost use Rattle.qc_base.specs.Shelf.{Contents};
-ghost use Rattle.step_rules.specs.Setting.{Setting};
+ghost use Rattle.step_rules.specs.Setting.{SettingValue};
 ghost use Rattle.qccd.specs.declared.answer.Answer.{Answer};
 ghost use Rattle.qccd.specs.Wanted.{files_of, to_compile, to_check};
 ghost use Rattle.qccd.specs.Work.{Work, make};
@@ -17,7 +17,7 @@ pub fn one_outcome()
 
 /// A check of the text that a compilation wrote says that it is legal, once the text is put on the shelf and circuit and trap stand there as before.
 pub fn a_compiled_schedule_is_legal()
-    ensures { (before after : Contents) (words check_words : List (List ℕ)) (circuit trap schedule text : List ℕ) (setting : Setting)
+    ensures { (before after : Contents) (words check_words : List (List ℕ)) (circuit trap schedule text : List ℕ) (setting : SettingValue)
         → files_of words ≡ Ok (to_compile circuit trap) → files_of check_words ≡ Ok (to_check circuit trap schedule)
         → Prepares (all_of before) words (Ok (make setting)) → IsTextOf setting text
         → after circuit ≡ before circuit → after trap ≡ before trap

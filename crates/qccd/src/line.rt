@@ -8,7 +8,7 @@ ghost use Rattle.qccd.specs.Line.{line_text, part_text};
 use itoa::Buffer;
 use qc_base::{Failed, Sink, write_all};
 
-/// A number, or none, and the text behind it.
+/// A number, or none, and the text after it.
 #[derive(Clone, Copy, Debug)]
 pub struct Part {
     pub number: Option<u64>,
@@ -45,7 +45,7 @@ impl Part {
         }
     }
 
-    /// A number and the text behind it.
+    /// A number and the text after it.
     pub fn of(number: u64, text: &'static [u8]) -> Part
         ensures { part_text result ≡ decimal number ++ text.now }
     {

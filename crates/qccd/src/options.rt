@@ -1,12 +1,12 @@
 //! The options of a compilation.
 
-ghost use Rattle.std.specs.Prelude.{◌≡◌, ℕ, ◌^◌, ◌<◌, IfSome, decimal};
+ghost use Rattle.std.specs.Prelude.{◌≡◌};
 ghost use Rattle.std.specs.Option.{option_map};
-ghost use Rattle.qccd.specs.Request.{is_file_word as is_file, number_of as number, rule_of as rule, behind, with_rule, with_cert, with_max, with_budget, with_option, with_options, no_options, texts};
+ghost use Rattle.qccd.specs.Request.{is_file_word as is_file, number_of, rule_of as rule, strip_prefix, with_rule, with_cert, with_max, with_budget, with_option, with_options, no_options, texts};
 ghost use Rattle.qccd.specs.Seen.{options_of};
 
 use crate::request::PlaceRule;
-use itoa::Buffer;
+use qc_base::number_of;
 
 /// The options that were given.
 #[derive(Clone, Copy, Debug)]
@@ -59,7 +59,7 @@ impl<'a> Given<'a> {
         if self.max.is_some() {
             return None;
         }
-        let max = Some(number_of(value)?);
+        let max = Some(number_in(value)?);
         Some(Given { max, ..self })
     }
 
@@ -69,7 +69,7 @@ impl<'a> Given<'a> {
         if self.budget.is_some() {
             return None;
         }
-        let budget = number_of(value)?;
+        let budget = number_in(value)?;
         if budget < 1 {
             return None;
         }
@@ -95,7 +95,7 @@ impl<'a> Given<'a> {
     }
 }
 
-/// The options that words are, behind those that were given, each at most once.
+/// The options that words are, after those that were given, each at most once.
 pub fn options_from<'a>(given: Given<'a>, words: &'a [String]) -> Option<Given<'a>>
     ensures { option_map options_of result ≡ with_options (options_of given.entry) (texts words.now) }
 {
@@ -116,33 +116,11 @@ pub fn is_file_word(word: &str) -> bool
     !word.is_empty() && !word.as_bytes().starts_with(b"--")
 }
 
-/// The number that a word may be.
-fn parsed(word: &str) -> Option<u64>
-    ensures { (value : ℕ) → value < 2 ^ 64 → word.now ≡ decimal value → result ≡ Some value }
-{
-    word.parse::<u64>().ok()
-}
-
-/// The number that a word spells.
-fn spelled(word: &str) -> Option<u64>
-    ensures found { IfSome result (λ value. word.now ≡ decimal value) }
-    ensures fits { IfSome result (λ value. value < 2 ^ 64) }
-    ensures only { (value : ℕ) → value < 2 ^ 64 → word.now ≡ decimal value → result ≡ Some value }
-{
-    let value = parsed(word)?;
-    let mut buffer = Buffer::new();
-    if buffer.format(value).as_bytes() == word.as_bytes() {
-        Some(value)
-    } else {
-        None
-    }
-}
-
 /// The number that a word is.
-pub fn number_of(word: &str) -> Option<u64>
-    ensures { result ≡ number word.now }
+pub fn number_in(word: &str) -> Option<u64>
+    ensures { result ≡ number_of word.now }
 {
-    spelled(word)
+    number_of(word.as_bytes())
 }
 
 fn rule_of(word: &str) -> Option<PlaceRule>
@@ -159,9 +137,9 @@ fn rule_of(word: &str) -> Option<PlaceRule>
     }
 }
 
-/// What stands behind a text at the front of a word.
+/// What comes after a text at the front of a word.
 fn value_of<'a>(word: &'a str, front: &str) -> Option<&'a str>
-    ensures { option_map (λ value. value.now) result ≡ behind front.now word.now }
+    ensures { option_map (λ value. value.now) result ≡ strip_prefix front.now word.now }
 {
     word.strip_prefix(front)
 }

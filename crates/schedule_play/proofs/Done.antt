@@ -8,11 +8,10 @@ use Rattle.std.proofs.lemmas.Option.{none-some, slice_get_within, get_or_from_sl
 use Rattle.std.proofs.lemmas.List.{append-nil, length-set, take-append-drop}
 use Rattle.std.proofs.lemmas.List.Concat.{flat_map-append}
 use Rattle.std.proofs.lemmas.List.Folds.{list_any-append, list_any_at, Any-from_list_any}
-use Rattle.circuit_core.specs.Circuit.{Parts}
+use Rattle.circuit_core.specs.Circuit.{CircuitValue}
 use Rattle.step_rules.specs.declared.action.Action.{Action}
 use Rattle.step_rules.specs.declared.action.Action.TheVariants as actions
-use Rattle.step_rules.specs.Play.{performs, actions_of}
-use Rattle.schedule_play.specs.Faults.{is_done}
+use Rattle.step_rules.specs.Play.{performs, actions_of, is_done}
 use Rattle.schedule_play.specs.Progress.{AreFlags, marked}
 
 -- ---- more steps, and more actions of a step
@@ -80,13 +79,13 @@ at_done (first ∷ steps) (suc time) place k step action at in_step is =
 
 -- ---- flags
 
-flags_other : (circuit : Parts) (steps : List (List Action)) (step : List Action) (action : Action) (flags : List Bool) → ((k : ℕ) → performs k action ≡ false) → AreFlags circuit (steps ++ step ∷ []) flags → AreFlags circuit (steps ++ (step ++ action ∷ []) ∷ []) flags
+flags_other : (circuit : CircuitValue) (steps : List (List Action)) (step : List Action) (action : Action) (flags : List Bool) → ((k : ℕ) → performs k action ≡ false) → AreFlags circuit (steps ++ step ∷ []) flags → AreFlags circuit (steps ++ (step ++ action ∷ []) ∷ []) flags
 flags_other circuit steps step action flags none so_far = record {
   len = so_far.len;
   each = λ k h. so_far.each k h ∙ sym (done_more steps step action k ∙ ap (λ (b : Bool). is_done (steps ++ step ∷ []) k || b) (none k) ∙ or-false (is_done (steps ++ step ∷ []) k));
 }
 
-pub flags_marked : (circuit : Parts) (steps : List (List Action)) (step : List Action) (action : Action) (flags : List Bool) → AreFlags circuit (steps ++ step ∷ []) flags → AreFlags circuit (steps ++ (step ++ action ∷ []) ∷ []) (marked flags action)
+pub flags_marked : (circuit : CircuitValue) (steps : List (List Action)) (step : List Action) (action : Action) (flags : List Bool) → AreFlags circuit (steps ++ step ∷ []) flags → AreFlags circuit (steps ++ (step ++ action ∷ []) ∷ []) (marked flags action)
 flags_marked circuit steps step (actions.Split zone end count) flags so_far = flags_other circuit steps step (actions.Split zone end count) flags (λ k. refl) so_far
 flags_marked circuit steps step (actions.Move from to) flags so_far = flags_other circuit steps step (actions.Move from to) flags (λ k. refl) so_far
 flags_marked circuit steps step (actions.Cross junction from to) flags so_far = flags_other circuit steps step (actions.Cross junction from to) flags (λ k. refl) so_far
@@ -107,16 +106,16 @@ flags_marked circuit steps step (actions.Op zone op) flags so_far = record {
       ];
 }
 
-flags_rest : (circuit : Parts) (steps : List (List Action)) (step rest : List Action) (flags : List Bool) → AreFlags circuit (steps ++ step ∷ []) flags → AreFlags circuit (steps ++ (step ++ rest) ∷ []) (fold marked flags rest)
+flags_rest : (circuit : CircuitValue) (steps : List (List Action)) (step rest : List Action) (flags : List Bool) → AreFlags circuit (steps ++ step ∷ []) flags → AreFlags circuit (steps ++ (step ++ rest) ∷ []) (fold marked flags rest)
 flags_rest circuit steps step [] flags so_far = subst (λ (s : List Action). AreFlags circuit (steps ++ s ∷ []) flags) (sym (append-nil step)) so_far
 flags_rest circuit steps step (action ∷ rest) flags so_far =
     subst (λ (s : List Action). AreFlags circuit (steps ++ s ∷ []) (fold marked (marked flags action) rest)) (append_assoc step (action ∷ []) rest)
     (flags_rest circuit steps (step ++ action ∷ []) rest (marked flags action) (flags_marked circuit steps step action flags so_far))
 
 -- the flags after a whole step
-pub flags_step : (circuit : Parts) (steps : List (List Action)) (step : List Action) (flags : List Bool) → AreFlags circuit steps flags → AreFlags circuit (steps ++ step ∷ []) (fold marked flags step)
+pub flags_step : (circuit : CircuitValue) (steps : List (List Action)) (step : List Action) (flags : List Bool) → AreFlags circuit steps flags → AreFlags circuit (steps ++ step ∷ []) (fold marked flags step)
 flags_step circuit steps step flags so_far = flags_rest circuit steps [] step flags (record { len = so_far.len; each = λ k h. so_far.each k h ∙ sym (done_none steps k) })
 
 -- the flags where the next step begins
-pub flags_next : (circuit : Parts) (steps : List (List Action)) (flags : List Bool) → AreFlags circuit steps flags → AreFlags circuit (steps ++ [] ∷ []) flags
+pub flags_next : (circuit : CircuitValue) (steps : List (List Action)) (flags : List Bool) → AreFlags circuit steps flags → AreFlags circuit (steps ++ [] ∷ []) flags
 flags_next circuit steps flags so_far = record { len = so_far.len; each = λ k h. so_far.each k h ∙ sym (done_none steps k) }

@@ -8,10 +8,11 @@ use Rattle.std.proofs.lemmas.List.{length-take-le}
 use Rattle.qc_base.specs.declared.ids.Ion.{Ion}
 use Rattle.qc_base.specs.declared.ids.OpId.{OpId}
 use Rattle.qc_base.specs.declared.ids.PlaceId.{PlaceId}
-use Rattle.circuit_core.specs.Circuit.{Parts}
+use Rattle.qc_base.specs.declared.ids.End.TheVariants as ends
+use Rattle.circuit_core.specs.Circuit.{CircuitValue}
 use Rattle.circuit_core.specs.declared.op.Op.{Op}
-use Rattle.circuit_core.specs.Order.{is_barrier}
-use Rattle.trap_model.specs.Trap.{Lists, is_zone}
+use Rattle.circuit_core.specs.Op.{is_barrier}
+use Rattle.trap_model.specs.Trap.{TrapValue, is_zone}
 use Rattle.ion_chain.specs.Transfer.{list_at}
 use Rattle.step_rules.specs.declared.action.Rule.{Rule}
 use Rattle.step_rules.specs.declared.action.Rule.TheVariants.{NoPlace, NotOp, NotAble, Absent}
@@ -19,17 +20,21 @@ use Rattle.step_rules.specs.declared.action.Action.{Action}
 use Rattle.step_rules.specs.declared.action.Action.TheVariants as actions
 use Rattle.step_rules.specs.declared.spots.Footprint.{Footprint}
 use Rattle.step_rules.specs.Footprint.{spots}
-use Rattle.step_rules.specs.Setting.{Setting}
+use Rattle.step_rules.specs.Setting.{SettingValue}
 use Rattle.step_rules.specs.Steps.{footprint, AreApart}
-use Rattle.step_rules.specs.Tests.{Test, test, first_broken, Passes, is_performed, is_able_for, are_among}
+use Rattle.step_rules.specs.Guards.{Guard, guard, first_broken, Passes, is_performed, is_able_for, are_among}
 use Rattle.step_rules.specs.Play.{performs}
 use Rattle.step_rules.proofs.Meets.{meet_iff}
 use Rattle.schedule_play.specs.declared.fault.PlayFault.{PlayFault}
 use Rattle.schedule_play.specs.declared.fault.PlayFault.TheVariants as faults
-use Rattle.schedule_play.specs.Faults.{Before, config_at, was_done, Fits, MeetsFirst, IsWell, Owes, OwesFirst, Offends}
+use Rattle.schedule_play.specs.Judging.{Before, config_at, was_done, Fits, MeetsFirst, IsWell, Owes, OwesFirst, Offends}
 use Rattle.schedule_play.specs.Progress.{do_meet, NoneMeets, MeetsAt, OpIsWell, OpOffends, IsOwed, Stands}
 use Rattle.schedule_play.proofs.Lists.{slice_taken}
 use Rattle.schedule_play.proofs.Going.{owed_by, owes_first_by}
+
+-- what is read where there is no action
+abbrev pub no_action : Action
+no_action = actions.Split (record { 0 = 0 }) ends.A 0
 
 -- ---- footprints that were kept
 
@@ -40,12 +45,12 @@ none_more footprints place works d none h here k other below at = elim (cases_eq
   | inr apart ↦ none k other (omega arith) at
 ]
 
-record Kept (trap : Lists) (footprints : List Footprint) (place : ℕ) (action : Action) : Type 0 where
+record Kept (trap : TrapValue) (footprints : List Footprint) (place : ℕ) (action : Action) : Type 0 where
   works : Footprint
   there : slice_get footprints place ≡ Some works
   is : spots works ≡ footprint trap action
 
-kept : (trap : Lists) (footprints : List Footprint) (step : List Action) (place : ℕ) (action : Action) → map spots footprints ≡ map (footprint trap) step → slice_get step place ≡ Some action → Kept trap footprints place action
+kept : (trap : TrapValue) (footprints : List Footprint) (step : List Action) (place : ℕ) (action : Action) → map spots footprints ≡ map (footprint trap) step → slice_get step place ≡ Some action → Kept trap footprints place action
 kept trap footprints [] place action same at = absurd (none-some action at)
 kept trap [] (first ∷ step) place action same at = absurd cc
 kept trap (works ∷ footprints) (first ∷ step) zero action same at =
@@ -56,12 +61,12 @@ kept trap (works ∷ footprints) (first ∷ step) (suc place) action same at =
     let it = kept trap footprints step place action tail at in
     record { works = it.works; there = it.there; is = it.is }
 
-record Worked (trap : Lists) (step : List Action) (place : ℕ) (works : Footprint) : Type 0 where
+record Worked (trap : TrapValue) (step : List Action) (place : ℕ) (works : Footprint) : Type 0 where
   action : Action
   there : slice_get step place ≡ Some action
   is : spots works ≡ footprint trap action
 
-worked : (trap : Lists) (footprints : List Footprint) (step : List Action) (place : ℕ) (works : Footprint) → map spots footprints ≡ map (footprint trap) step → slice_get footprints place ≡ Some works → Worked trap step place works
+worked : (trap : TrapValue) (footprints : List Footprint) (step : List Action) (place : ℕ) (works : Footprint) → map spots footprints ≡ map (footprint trap) step → slice_get footprints place ≡ Some works → Worked trap step place works
 worked trap [] step place works same at = absurd (none-some works at)
 worked trap (first ∷ footprints) [] place works same at = absurd cc
 worked trap (first ∷ footprints) (action ∷ step) zero works same at =
@@ -72,26 +77,26 @@ worked trap (first ∷ footprints) (action ∷ step) (suc place) works same at =
     let it = worked trap footprints step place works tail at in
     record { action = it.action; there = it.there; is = it.is }
 
-apart_by : (trap : Lists) (a b : Action) (f g : Footprint) → spots f ≡ footprint trap a → spots g ≡ footprint trap b → do_meet f g ≡ false → AreApart trap a b
+apart_by : (trap : TrapValue) (a b : Action) (f g : Footprint) → spots f ≡ footprint trap a → spots g ≡ footprint trap b → do_meet f g ≡ false → AreApart trap a b
 apart_by trap a b f g of_a of_b unmet spot in_a in_b =
     let met : do_meet f g ≡ true = (meet_iff trap a b f g (do_meet f g) of_a of_b refl).1 (record { spot = spot; of_a = in_a; of_b = in_b }) in
     cc
 
-apart_before : (trap : Lists) (footprints : List Footprint) (step : List Action) (works : Footprint) (action : Action) (count : ℕ) → map spots footprints ≡ map (footprint trap) step → spots works ≡ footprint trap action → NoneMeets footprints count works
+apart_before : (trap : TrapValue) (footprints : List Footprint) (step : List Action) (works : Footprint) (action : Action) (count : ℕ) → map spots footprints ≡ map (footprint trap) step → spots works ≡ footprint trap action → NoneMeets footprints count works
     → (place : ℕ) (other : Action) → place < count → slice_get step place ≡ Some other → AreApart trap other action
 apart_before trap footprints step works action count same is none place other below at =
     let it = kept trap footprints step place other same at in
     apart_by trap other action it.works works it.is is (none place it.works below it.there)
 
 -- the action is apart from all before it
-pub all_apart : (trap : Lists) (footprints : List Footprint) (step : List Action) (works : Footprint) (action : Action) → map spots footprints ≡ map (footprint trap) step → spots works ≡ footprint trap action → NoneMeets footprints (length footprints) works
+pub all_apart : (trap : TrapValue) (footprints : List Footprint) (step : List Action) (works : Footprint) (action : Action) → map spots footprints ≡ map (footprint trap) step → spots works ≡ footprint trap action → NoneMeets footprints (length footprints) works
     → All (λ (other : Action). AreApart trap other action) step
 all_apart trap footprints step works action same is none k d h =
     let at : slice_get step k ≡ Some (get_or step k d) = slice_get-get_or step k d h in
     let it = kept trap footprints step k (get_or step k d) same at in
     apart_by trap (get_or step k d) action it.works works it.is is (none k it.works (slice_get_within footprints k it.works it.there) it.there)
 
-pub meets_first : (trap : Lists) (footprints : List Footprint) (step : List Action) (works : Footprint) (action : Action) (place : ℕ) → map spots footprints ≡ map (footprint trap) step → spots works ≡ footprint trap action → MeetsAt footprints works place
+pub meets_first : (trap : TrapValue) (footprints : List Footprint) (step : List Action) (works : Footprint) (action : Action) (place : ℕ) → map spots footprints ≡ map (footprint trap) step → spots works ≡ footprint trap action → MeetsAt footprints works place
     → MeetsFirst trap step action (place + 1)
 meets_first trap footprints step works action place same is meets =
     let it = worked trap footprints step place meets.other same meets.there in
@@ -112,10 +117,10 @@ meets_first trap footprints step works action place same is meets =
 pub counted : (step : List Action) (count : ℕ) → count < length step → length (take count step) ≡ count
 counted step count h = length-take-le count step (omega arith)
 
-pub passes_at : (setting : Setting) (before : Before) (places : List (List Ion)) (given action : Action) → places ≡ config_at setting before → given ≡ action → Passes setting places given → Passes setting (config_at setting before) action
+pub passes_at : (setting : SettingValue) (before : Before) (places : List (List Ion)) (given action : Action) → places ≡ config_at setting before → given ≡ action → Passes setting places given → Passes setting (config_at setting before) action
 passes_at setting before places given action config same passes = subst (λ (c : List (List Ion)). Passes setting c action) config (subst (Passes setting places) same passes)
 
-pub is_shared : (setting : Setting) (before : Before) (places : List (List Ion)) (early marks : List Bool) (footprints : List Footprint) (works : Footprint) (given action : Action) (first second number : ℕ) →
+pub is_shared : (setting : SettingValue) (before : Before) (places : List (List Ion)) (early marks : List Bool) (footprints : List Footprint) (works : Footprint) (given action : Action) (first second number : ℕ) →
     Stands setting before places early marks footprints → given ≡ action → Passes setting places given → spots works ≡ footprint setting.trap given → MeetsAt footprints works first → number ≡ length before.steps + 1 → second ≡ length before.actions + 1
     → Offends setting before action (faults.Shared number (first + 1) second)
 is_shared setting before places early marks footprints works given action first second number stands same passes is meets step_is second_is = (
@@ -125,14 +130,14 @@ is_shared setting before places early marks footprints works given action first 
 )
 
 -- nothing is wrong but maybe with the operation
-pub record Alone (setting : Setting) (before : Before) (places : List (List Ion)) (early marks : List Bool) (footprints : List Footprint) (works : Footprint) (given action : Action) : Type 0 where
+pub record Alone (setting : SettingValue) (before : Before) (places : List (List Ion)) (early marks : List Bool) (footprints : List Footprint) (works : Footprint) (given action : Action) : Type 0 where
   pub stands : Stands setting before places early marks footprints
   pub same : given ≡ action
   pub passes : Passes setting places given
   pub is : spots works ≡ footprint setting.trap given
   pub none : NoneMeets footprints (length footprints) works
 
-pub fits : (setting : Setting) (before : Before) (places : List (List Ion)) (early marks : List Bool) (footprints : List Footprint) (works : Footprint) (given action : Action) → Alone setting before places early marks footprints works given action → Fits setting before action
+pub fits : (setting : SettingValue) (before : Before) (places : List (List Ion)) (early marks : List Bool) (footprints : List Footprint) (works : Footprint) (given action : Action) → Alone setting before places early marks footprints works given action → Fits setting before action
 fits setting before places early marks footprints works given action alone = record {
   passes = passes_at setting before places given action alone.stands.config alone.same alone.passes;
   apart = all_apart setting.trap footprints before.actions works action alone.stands.footprints (alone.is ∙ ap (footprint setting.trap) alone.same) alone.none;
@@ -142,18 +147,18 @@ some_op : (o : Option Op) → option_map_or (λ (op : Op). not (is_barrier op)) 
 some_op None e = absurd cc
 some_op (Some op) e = (op, refl)
 
-pub performed_within : (circuit : Parts) (k : ℕ) → is_performed circuit k ≡ true → k < length circuit.ops
+pub performed_within : (circuit : CircuitValue) (k : ℕ) → is_performed circuit k ≡ true → k < length circuit.ops
 performed_within circuit k e = let it = some_op (slice_get circuit.ops k) e in slice_get_within circuit.ops k it.0 it.1
 
-second_passes : (a b : Bool) (p q : Rule) (rest : List Test) → first_broken (test a p ∷ test b q ∷ rest) ≡ None → b ≡ true
+second_passes : (a b : Bool) (p q : Rule) (rest : List Guard) → first_broken (guard a p ∷ guard b q ∷ rest) ≡ None → b ≡ true
 second_passes true true p q rest e = refl
 second_passes true false p q rest e = absurd cc
 second_passes false b p q rest e = absurd cc
 
 -- an operation that passes is one of the circuit's
-pub op_performed : (setting : Setting) (places : List (List Ion)) (zone : PlaceId) (op : OpId) (given : Action) → given ≡ actions.Op zone op → Passes setting places given → is_performed setting.circuit op.0 ≡ true
+pub op_performed : (setting : SettingValue) (places : List (List Ion)) (zone : PlaceId) (op : OpId) (given : Action) → given ≡ actions.Op zone op → Passes setting places given → is_performed setting.circuit op.0 ≡ true
 op_performed setting places zone op given is passes =
-    second_passes (is_zone setting.trap zone.0) (is_performed setting.circuit op.0) NoPlace NotOp (test (is_able_for setting zone.0 op.0) NotAble ∷ test (are_among setting (list_at places zone.0) op.0) Absent ∷ [])
+    second_passes (is_zone setting.trap zone.0) (is_performed setting.circuit op.0) NoPlace NotOp (guard (is_able_for setting zone.0 op.0) NotAble ∷ guard (are_among setting (list_at places zone.0) op.0) Absent ∷ [])
     (subst (Passes setting places) is passes)
 
 -- no action but an operation's performs one
@@ -165,7 +170,7 @@ performs_none (actions.Merge zone end) other k = refl
 performs_none (actions.Swap zone index) other k = refl
 performs_none (actions.Op zone op) other k = absurd (other zone op refl)
 
-pub well_other : (setting : Setting) (before : Before) (places : List (List Ion)) (early marks : List Bool) (footprints : List Footprint) (works : Footprint) (given action : Action) → Alone setting before places early marks footprints works given action
+pub well_other : (setting : SettingValue) (before : Before) (places : List (List Ion)) (early marks : List Bool) (footprints : List Footprint) (works : Footprint) (given action : Action) → Alone setting before places early marks footprints works given action
     → ((zone : PlaceId) (op : OpId) → given ≡ actions.Op zone op → ⊥) → IsWell setting before action
 well_other setting before places early marks footprints works given action alone other =
     let it = fits setting before places early marks footprints works given action alone in
@@ -185,11 +190,11 @@ performs_it : (zone : PlaceId) (op : OpId) (given action : Action) → given ≡
 performs_it zone op given action is same = ap (performs op.0) (sym same ∙ is) ∙ eq-eqb op.0 op.0 refl
 
 -- the flag of the operation says whether it was performed
-was_flagged : (setting : Setting) (before : Before) (places : List (List Ion)) (early marks : List Bool) (footprints : List Footprint) (op : ℕ) → Stands setting before places early marks footprints → is_performed setting.circuit op ≡ true
+was_flagged : (setting : SettingValue) (before : Before) (places : List (List Ion)) (early marks : List Bool) (footprints : List Footprint) (op : ℕ) → Stands setting before places early marks footprints → is_performed setting.circuit op ≡ true
     → get_or marks op false ≡ was_done before op
 was_flagged setting before places early marks footprints op stands performed = stands.done.each op (omega (arith, performed_within setting.circuit op performed, stands.done.len))
 
-pub well_op : (setting : Setting) (before : Before) (places : List (List Ion)) (early marks : List Bool) (footprints : List Footprint) (works : Footprint) (given action : Action) (zone : PlaceId) (op : OpId) →
+pub well_op : (setting : SettingValue) (before : Before) (places : List (List Ion)) (early marks : List Bool) (footprints : List Footprint) (works : Footprint) (given action : Action) (zone : PlaceId) (op : OpId) →
     Alone setting before places early marks footprints works given action → given ≡ actions.Op zone op → OpIsWell setting.circuit early marks op → IsWell setting before action
 well_op setting before places early marks footprints works given action zone op alone is well =
     let it = fits setting before places early marks footprints works given action alone in
@@ -205,7 +210,7 @@ well_op setting before places early marks footprints works given action zone op 
           (sym (was_flagged setting before places early marks footprints op.0 alone.stands performed) ∙ well.1);
     }
 
-pub offends_op : (setting : Setting) (before : Before) (places : List (List Ion)) (early marks : List Bool) (footprints : List Footprint) (works : Footprint) (given action : Action) (zone : PlaceId) (op : OpId) (number : ℕ) (fault : PlayFault) →
+pub offends_op : (setting : SettingValue) (before : Before) (places : List (List Ion)) (early marks : List Bool) (footprints : List Footprint) (works : Footprint) (given action : Action) (zone : PlaceId) (op : OpId) (number : ℕ) (fault : PlayFault) →
     Alone setting before places early marks footprints works given action → given ≡ actions.Op zone op → number ≡ length before.steps + 1 → OpOffends setting.circuit early marks number op fault → Offends setting before action fault
 offends_op setting before places early marks footprints works given action zone op number (faults.Broken step place rule) alone is step_is offends = absurd offends
 offends_op setting before places early marks footprints works given action zone op number (faults.Shared step first second) alone is step_is offends = absurd offends

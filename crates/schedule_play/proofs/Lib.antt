@@ -1,12 +1,12 @@
 pub mod Lists
-pub mod LastOn
 pub mod Carried
 pub mod Owed
 pub mod Done
+pub mod ReadySteps
 pub mod Going
 pub mod Judged
 pub mod Stepped
+pub mod Causes
 pub mod Played
 pub mod Verdicts
-pub mod PlainJudged
 pub mod Deciding

@@ -14,18 +14,20 @@ use Rattle.circuit_core.specs.Order.{Forced}
 use Rattle.step_rules.specs.declared.action.Action.{Action}
 use Rattle.step_rules.specs.declared.action.Action.TheVariants as actions
 use Rattle.step_rules.specs.Placement.{start_of}
-use Rattle.step_rules.specs.Setting.{Setting}
+use Rattle.step_rules.specs.Setting.{SettingValue}
 use Rattle.step_rules.specs.Steps.{AreApart, IsLegal, after_step}
-use Rattle.step_rules.specs.Tests.{Passes, PassesTransport, is_performed}
-use Rattle.step_rules.specs.Play.{AreLegal, performs, actions_of, PerformsIn, Plays}
+use Rattle.step_rules.specs.Guards.{Passes, PassesTransport, is_performed}
+use Rattle.step_rules.specs.Play.{AreLegal, performs, actions_of, PerformsIn, Plays, after_steps, is_done}
 use Rattle.schedule_play.specs.declared.fault.PlayFault.{PlayFault}
 use Rattle.schedule_play.specs.declared.fault.PlayFault.TheVariants as faults
-use Rattle.schedule_play.specs.Faults.{after_steps, is_done, behind, config_at, was_done, IsWell, GoWell, Lacks, Stops, Explains}
+use Rattle.schedule_play.specs.Faults.{LeavesOut, Explains}
+use Rattle.schedule_play.specs.Judging.{before_of, config_at, was_done, IsWell, GoWell}
 use Rattle.schedule_play.specs.Progress.{AreFlags, marked, Stands, StepIsWell, StepStops, ExplainsStep, IsUndone, IsMissing, MayBeTaken}
 use Rattle.schedule_play.proofs.Lists.{slice_take, slice_taken, there_is}
-use Rattle.schedule_play.proofs.Carried.{transport_of}
+use Rattle.step_rules.proofs.Carried.{transport_of}
 use Rattle.schedule_play.proofs.Done.{DoneAt, done_at, at_done, done_append, done_none, done_more, flags_step, flags_next}
 use Rattle.schedule_play.proofs.Going.{well_pushed}
+use Rattle.schedule_play.proofs.Causes.{step_first, leaves_out}
 use Rattle.schedule_play.proofs.Judged.{op_performed, performed_within}
 
 -- ---- the steps are legal
@@ -34,12 +36,12 @@ pub at_seam : {X : Type 0} (xs rest : List X) (x : X) → slice_get (xs ++ x ∷
 at_seam [] rest x = refl
 at_seam (y ∷ ys) rest x = at_seam ys rest x
 
-pub step_of : (setting : Setting) (steps rest : List (List Action)) (step : List Action) → GoWell setting (steps ++ step ∷ rest) → StepIsWell setting steps step
+pub step_of : (setting : SettingValue) (steps rest : List (List Action)) (step : List Action) → GoWell setting (steps ++ step ∷ rest) → StepIsWell setting steps step
 step_of setting steps rest step go place action at =
     let there : slice_get (steps ++ step ∷ rest) (length steps) ≡ Some step = at_seam steps rest step in
-    subst (λ (l : List (List Action)). IsWell setting (behind l (take place step)) action) (take-append_seam steps (step ∷ rest)) (go (length steps) place step action there at)
+    subst (λ (l : List (List Action)). IsWell setting (before_of l (take place step)) action) (take-append_seam steps (step ∷ rest)) (go (length steps) place step action there at)
 
-pub step_legal : (setting : Setting) (steps : List (List Action)) (step : List Action) → StepIsWell setting steps step → IsLegal setting (config_at setting (behind steps [])) step
+pub step_legal : (setting : SettingValue) (steps : List (List Action)) (step : List Action) → StepIsWell setting steps step → IsLegal setting (config_at setting (before_of steps [])) step
 step_legal setting steps step well = record {
   passes = λ k d h. (well k (get_or step k d) (slice_get-get_or step k d h)).passes;
   apart = λ i j d before h.
@@ -49,15 +51,15 @@ step_legal setting steps step well = record {
       subst (λ (a : Action). AreApart setting.trap a (get_or step j d)) is (it.apart i d (slice_get_within (take j step) i (get_or step i d) there));
 }
 
-pub may_be_taken : (setting : Setting) (steps : List (List Action)) (step given : List Action) (places : List (List Ion)) → given ≡ step → places ≡ config_at setting (behind steps []) → StepIsWell setting steps step → MayBeTaken setting.trap places given
+pub may_be_taken : (setting : SettingValue) (steps : List (List Action)) (step given : List Action) (places : List (List Ion)) → given ≡ step → places ≡ config_at setting (before_of steps []) → StepIsWell setting steps step → MayBeTaken setting.trap places given
 may_be_taken setting steps step given places same config well =
     let legal = step_legal setting steps step well in
     subst (MayBeTaken setting.trap places) (sym same) (record {
-      passes = λ k d h. subst (λ (p : List (List Ion)). PassesTransport setting.trap p (get_or step k d)) (sym config) (transport_of setting (config_at setting (behind steps [])) (get_or step k d) (legal.passes k d h));
+      passes = λ k d h. subst (λ (p : List (List Ion)). PassesTransport setting.trap p (get_or step k d)) (sym config) (transport_of setting (config_at setting (before_of steps [])) (get_or step k d) (legal.passes k d h));
       apart = legal.apart;
     })
 
-legal_rest : (setting : Setting) (steps rest : List (List Action)) → GoWell setting (steps ++ rest) → AreLegal setting (after_steps setting.trap (start_of setting.trap setting.placement) steps) rest
+legal_rest : (setting : SettingValue) (steps rest : List (List Action)) → GoWell setting (steps ++ rest) → AreLegal setting (after_steps setting.trap (start_of setting.trap setting.placement) steps) rest
 legal_rest setting steps [] go = tt
 legal_rest setting steps (step ∷ rest) go =
     let start : List (List Ion) = start_of setting.trap setting.placement in
@@ -110,15 +112,15 @@ once_more k steps step action first so_far =
     one_more (is_done (steps ++ step ∷ []) k) (is_done (steps ++ (step ++ action ∷ []) ∷ []) k) (performs k action) (count k (steps ++ step ∷ [])) (count k (steps ++ (step ++ action ∷ []) ∷ []))
     (done_more steps step action k) first so_far (count_more k steps step action)
 
-once_in_step : (setting : Setting) (k : ℕ) (steps : List (List Action)) (step rest : List Action) → StepIsWell setting steps (step ++ rest) → AtMostOnce k (steps ++ step ∷ []) → AtMostOnce k (steps ++ (step ++ rest) ∷ [])
+once_in_step : (setting : SettingValue) (k : ℕ) (steps : List (List Action)) (step rest : List Action) → StepIsWell setting steps (step ++ rest) → AtMostOnce k (steps ++ step ∷ []) → AtMostOnce k (steps ++ (step ++ rest) ∷ [])
 once_in_step setting k steps step [] well so_far = subst (λ (s : List Action). AtMostOnce k (steps ++ s ∷ [])) (sym (append-nil step)) so_far
 once_in_step setting k steps step (action ∷ rest) well so_far =
     let first : performs k action ≡ true → is_done (steps ++ step ∷ []) k ≡ false = λ is.
-    subst (λ (l : List Action). was_done (behind steps l) k ≡ false) (take-append_seam step (action ∷ rest)) ((well (length step) action (at_seam step rest action)).first k is) in
+    subst (λ (l : List Action). was_done (before_of steps l) k ≡ false) (take-append_seam step (action ∷ rest)) ((well (length step) action (at_seam step rest action)).first k is) in
     let more : StepIsWell setting steps ((step ++ action ∷ []) ++ rest) = subst (StepIsWell setting steps) (sym (append_assoc step (action ∷ []) rest)) well in
     subst (λ (s : List Action). AtMostOnce k (steps ++ s ∷ [])) (append_assoc step (action ∷ []) rest) (once_in_step setting k steps (step ++ action ∷ []) rest more (once_more k steps step action first so_far))
 
-once_rest : (setting : Setting) (k : ℕ) (steps rest : List (List Action)) → GoWell setting (steps ++ rest) → AtMostOnce k steps → AtMostOnce k (steps ++ rest)
+once_rest : (setting : SettingValue) (k : ℕ) (steps rest : List (List Action)) → GoWell setting (steps ++ rest) → AtMostOnce k steps → AtMostOnce k (steps ++ rest)
 once_rest setting k steps [] go so_far = subst (AtMostOnce k) (sym (append-nil steps)) so_far
 once_rest setting k steps (step ∷ rest) go so_far =
     let begin : AtMostOnce k (steps ++ [] ∷ []) = count_last k steps [] ∙ plus-none (count k steps) ∙ so_far ∙ sym (ap one (done_none steps k)) in
@@ -126,12 +128,12 @@ once_rest setting k steps (step ∷ rest) go so_far =
     let more : GoWell setting ((steps ++ step ∷ []) ++ rest) = subst (GoWell setting) (sym (append_assoc steps (step ∷ []) rest)) go in
     subst (AtMostOnce k) (append_assoc steps (step ∷ []) rest) (once_rest setting k (steps ++ step ∷ []) rest more whole)
 
-pub at_most_once : (setting : Setting) (k : ℕ) (steps : List (List Action)) → GoWell setting steps → count k steps ≡ one (is_done steps k)
+pub at_most_once : (setting : SettingValue) (k : ℕ) (steps : List (List Action)) → GoWell setting steps → count k steps ≡ one (is_done steps k)
 at_most_once setting k steps go = once_rest setting k [] steps go refl
 
 -- ---- in order
 
-pub op_of : (setting : Setting) (places : List (List Ion)) (k : ℕ) (action : Action) → performs k action ≡ true → Passes setting places action → is_performed setting.circuit k ≡ true
+pub op_of : (setting : SettingValue) (places : List (List Ion)) (k : ℕ) (action : Action) → performs k action ≡ true → Passes setting places action → is_performed setting.circuit k ≡ true
 op_of setting places k (actions.Split zone end count) is passes = absurd cc
 op_of setting places k (actions.Move from to) is passes = absurd cc
 op_of setting places k (actions.Cross junction from to) is passes = absurd cc
@@ -140,16 +142,16 @@ op_of setting places k (actions.Swap zone index) is passes = absurd cc
 op_of setting places k (actions.Op zone op) is passes = subst (λ (n : ℕ). is_performed setting.circuit n ≡ true) (eqb-true op.0 k is) (op_performed setting places zone op (actions.Op zone op) refl passes)
 
 -- what was performed in an earlier step was performed before
-done_before : (setting : Setting) (steps : List (List Action)) (k : ℕ) (actions : List Action) → is_done steps k ≡ true → was_done (behind steps actions) k ≡ true
+done_before : (setting : SettingValue) (steps : List (List Action)) (k : ℕ) (actions : List Action) → is_done steps k ≡ true → was_done (before_of steps actions) k ≡ true
 done_before setting steps k actions e = done_append steps (actions ∷ []) k ∙ ap (λ (b : Bool). b || is_done (actions ∷ []) k) e
 
-pub in_order : (setting : Setting) (steps : List (List Action)) (i j s t : ℕ) → GoWell setting steps → Forced setting.circuit i j → PerformsIn steps i s → PerformsIn steps j t → s < t
+pub in_order : (setting : SettingValue) (steps : List (List Action)) (i j s t : ℕ) → GoWell setting steps → Forced setting.circuit i j → PerformsIn steps i s → PerformsIn steps j t → s < t
 in_order setting steps i j s t go forced first second =
     let one_place = there_is first.step first.action first.in_step in
     let other_place = there_is second.step second.action second.in_step in
-    let one_well : IsWell setting (behind (take s steps) (take one_place.0 first.step)) first.action = go s one_place.0 first.step first.action first.at_time one_place.1 in
-    let other_well : IsWell setting (behind (take t steps) (take other_place.0 second.step)) second.action = go t other_place.0 second.step second.action second.at_time other_place.1 in
-    let performed = op_of setting (config_at setting (behind (take s steps) (take one_place.0 first.step))) i first.action first.is one_well.passes in
+    let one_well : IsWell setting (before_of (take s steps) (take one_place.0 first.step)) first.action = go s one_place.0 first.step first.action first.at_time one_place.1 in
+    let other_well : IsWell setting (before_of (take t steps) (take other_place.0 second.step)) second.action = go t other_place.0 second.step second.action second.at_time other_place.1 in
+    let performed = op_of setting (config_at setting (before_of (take s steps) (take one_place.0 first.step))) i first.action first.is one_well.passes in
     elim (cases_Bool (is_done (take t steps) i)) [
       | inr undone ↦ absurd (other_well.none_owed j i second.is (record { performed = performed; forced = forced; undone = undone }))
       | inl done ↦ elim (cases_lt s t) [
@@ -157,7 +159,7 @@ in_order setting steps i j s t go forced first second =
         | inr after ↦ (let it : DoneAt (take t steps) i = done_at (take t steps) i done in
             let there = slice_taken t steps it.step it.time it.at_time in
             let here : slice_get (take s steps) it.time ≡ Some it.step = slice_take s steps it.step it.time (omega (arith, there.0)) there.1 in
-            let twice : was_done (behind (take s steps) (take one_place.0 first.step)) i ≡ true =
+            let twice : was_done (before_of (take s steps) (take one_place.0 first.step)) i ≡ true =
             done_before setting (take s steps) i (take one_place.0 first.step) (at_done (take s steps) it.time it.place i it.step it.action here it.in_step it.is) in
             let free = one_well.first i first.is in
             absurd cc)
@@ -166,48 +168,50 @@ in_order setting steps i j s t go forced first second =
 
 -- ---- the whole schedule
 
-pub plays : (setting : Setting) (steps : List (List Action)) → GoWell setting steps → ((k : ℕ) → IsTrue (is_performed setting.circuit k) → is_done steps k ≡ true) → Plays setting steps
+pub plays : (setting : SettingValue) (steps : List (List Action)) → GoWell setting steps → ((k : ℕ) → IsTrue (is_performed setting.circuit k) → is_done steps k ≡ true) → Plays setting steps
 plays setting steps go all = record {
   legal = legal_rest setting [] steps go;
-  once = λ k performed. at_most_once setting k steps go ∙ ap one (all k performed);
-  in_order = λ i j forced s t first second. in_order setting steps i j s t go forced first second;
+  performed = record {
+    once = λ k performed. at_most_once setting k steps go ∙ ap one (all k performed);
+    in_order = λ i j forced s t first second. in_order setting steps i j s t go forced first second;
+  };
 }
 
-done_by_flag : (setting : Setting) (steps : List (List Action)) (flags : List Bool) (k : ℕ) → AreFlags setting.circuit (steps ++ [] ∷ []) flags → IsTrue (is_performed setting.circuit k) → get_or flags k false ≡ is_done steps k
+done_by_flag : (setting : SettingValue) (steps : List (List Action)) (flags : List Bool) (k : ℕ) → AreFlags setting.circuit (steps ++ [] ∷ []) flags → IsTrue (is_performed setting.circuit k) → get_or flags k false ≡ is_done steps k
 done_by_flag setting steps flags k are performed = are.each k (omega (arith, performed_within setting.circuit k performed, are.len)) ∙ done_none steps k
 
-done_unless : (setting : Setting) (steps : List (List Action)) (flags : List Bool) (k : ℕ) → AreFlags setting.circuit (steps ++ [] ∷ []) flags → IsTrue (is_performed setting.circuit k) → (IsUndone setting.circuit flags k → ⊥) → is_done steps k ≡ true
+done_unless : (setting : SettingValue) (steps : List (List Action)) (flags : List Bool) (k : ℕ) → AreFlags setting.circuit (steps ++ [] ∷ []) flags → IsTrue (is_performed setting.circuit k) → (IsUndone setting.circuit flags k → ⊥) → is_done steps k ≡ true
 done_unless setting steps flags k are performed none = elim (cases_Bool (is_done steps k)) [
   | inl done ↦ done
   | inr undone ↦ absurd (none (record { performed = performed; undone = done_by_flag setting steps flags k are performed ∙ undone }))
 ]
 
 -- what is kept at the end
-pub played : (setting : Setting) (schedule : List (List Action)) (time : ℕ) (places : List (List Ion)) (early marks : List Bool) → length schedule ≤ time → Stands setting (behind (take time schedule) []) places early marks []
+pub played : (setting : SettingValue) (schedule : List (List Action)) (time : ℕ) (places : List (List Ion)) (early marks : List Bool) → length schedule ≤ time → Stands setting (before_of (take time schedule) []) places early marks []
     → ((k : ℕ) → IsUndone setting.circuit marks k → ⊥) → Plays setting schedule
 played setting schedule time places early marks h stands none =
     let go : GoWell setting (take time schedule) = stands.well in
     subst (Plays setting) (take_all time schedule h) (plays setting (take time schedule) go (λ k performed. done_unless setting (take time schedule) marks k stands.done performed (none k)))
 
-pub lacked : (setting : Setting) (schedule : List (List Action)) (time : ℕ) (places : List (List Ion)) (early marks : List Bool) (op : ℕ) → length schedule ≤ time → Stands setting (behind (take time schedule) []) places early marks []
-    → IsMissing setting.circuit marks op → Lacks setting schedule op
-lacked setting schedule time places early marks op h stands missing = subst (λ (l : List (List Action)). Lacks setting l op) (take_all time schedule h) (record {
-  well = stands.well;
-  performed = missing.undone.performed;
-  undone = sym (done_by_flag setting (take time schedule) marks op stands.done missing.undone.performed) ∙ missing.undone.undone;
-  least = λ other before performed. done_unless setting (take time schedule) marks other stands.done performed (missing.least other before);
-})
+pub lacked : (setting : SettingValue) (schedule : List (List Action)) (time : ℕ) (places : List (List Ion)) (early marks : List Bool) (op : ℕ) → length schedule ≤ time → Stands setting (before_of (take time schedule) []) places early marks []
+    → IsMissing setting.circuit marks op → LeavesOut setting schedule op
+lacked setting schedule time places early marks op h stands missing =
+    let past : List (List Action) = take time schedule in
+    let undone : is_done past op ≡ false = sym (done_by_flag setting past marks op stands.done missing.undone.performed) ∙ missing.undone.undone in
+    let least : (other : ℕ) → other < op → IsTrue (is_performed setting.circuit other) → is_done past other ≡ true =
+    λ other before performed. done_unless setting past marks other stands.done performed (missing.least other before) in
+    subst (λ (l : List (List Action)). LeavesOut setting l op) (take_all time schedule h) (leaves_out setting past op stands.well missing.undone.performed undone least)
 
 -- ---- one more step
 
-pub stands_next : (setting : Setting) (schedule : List (List Action)) (time : ℕ) (d given : List Action) (places places_now : List (List Ion)) (early marks early_now marks_now : List Bool) → time < length schedule → given ≡ get_or schedule time d
-    → Stands setting (behind (take time schedule) []) places early marks [] → StepIsWell setting (take time schedule) given → AreFlags setting.circuit (take time schedule ++ given ∷ []) marks_now
-    → places_now ≡ after_step setting.trap places given → early_now ≡ fold marked early given → Stands setting (behind (take (time + 1) schedule) []) places_now early_now marks_now []
+pub stands_next : (setting : SettingValue) (schedule : List (List Action)) (time : ℕ) (d given : List Action) (places places_now : List (List Ion)) (early marks early_now marks_now : List Bool) → time < length schedule → given ≡ get_or schedule time d
+    → Stands setting (before_of (take time schedule) []) places early marks [] → StepIsWell setting (take time schedule) given → AreFlags setting.circuit (take time schedule ++ given ∷ []) marks_now
+    → places_now ≡ after_step setting.trap places given → early_now ≡ fold marked early given → Stands setting (before_of (take (time + 1) schedule) []) places_now early_now marks_now []
 stands_next setting schedule time d given places places_now early marks early_now marks_now h same stands well flags moved marked_is =
     let past : List (List Action) = take time schedule in
     let start : List (List Ion) = start_of setting.trap setting.placement in
     let front : take (time + 1) schedule ≡ past ++ given ∷ [] = take_more schedule time d h ∙ ap (λ (s : List Action). past ++ s ∷ []) (sym same) in
-    subst (λ (l : List (List Action)). Stands setting (behind l []) places_now early_now marks_now []) (sym front) (record {
+    subst (λ (l : List (List Action)). Stands setting (before_of l []) places_now early_now marks_now []) (sym front) (record {
       config = moved ∙ ap (λ (p : List (List Ion)). after_step setting.trap p given) stands.config ∙ sym (fold-append (after_step setting.trap) start past (given ∷ []));
       earlier = subst (AreFlags setting.circuit (past ++ given ∷ [])) (sym marked_is) (flags_step setting.circuit past given early stands.earlier);
       done = flags_next setting.circuit (past ++ given ∷ []) marks_now flags;
@@ -217,22 +221,10 @@ stands_next setting schedule time d given places places_now early marks early_no
 
 -- ---- a fault
 
-pub step_stops : (setting : Setting) (schedule : List (List Action)) (time : ℕ) (step : List Action) (fault : PlayFault) → slice_get schedule time ≡ Some step → GoWell setting (take time schedule) → StepStops setting (take time schedule) step fault → Stops setting schedule fault
-step_stops setting schedule time step fault at go stops = record {
-  time = time;
-  place = stops.place;
-  step = step;
-  action = stops.action;
-  at_time = at;
-  in_step = stops.in_step;
-  well = well_pushed setting (take time schedule) (take stops.place step) go stops.well;
-  offends = stops.offends;
-}
-
-pub explained : (setting : Setting) (schedule : List (List Action)) (time : ℕ) (step : List Action) (fault : PlayFault) → slice_get schedule time ≡ Some step → GoWell setting (take time schedule) → ExplainsStep setting (take time schedule) step fault → Explains setting schedule fault
-explained setting schedule time step (faults.Broken at place rule) there go says = step_stops setting schedule time step (faults.Broken at place rule) there go says
-explained setting schedule time step (faults.Shared at first second) there go says = step_stops setting schedule time step (faults.Shared at first second) there go says
-explained setting schedule time step (faults.Early at op needs) there go says = step_stops setting schedule time step (faults.Early at op needs) there go says
-explained setting schedule time step (faults.Twice at op) there go says = step_stops setting schedule time step (faults.Twice at op) there go says
+pub explained : (setting : SettingValue) (schedule : List (List Action)) (time : ℕ) (step : List Action) (fault : PlayFault) → slice_get schedule time ≡ Some step → GoWell setting (take time schedule) → ExplainsStep setting (take time schedule) step fault → Explains setting schedule fault
+explained setting schedule time step (faults.Broken at place rule) there go says = step_first setting schedule time step (faults.Broken at place rule) there go says
+explained setting schedule time step (faults.Shared at first second) there go says = step_first setting schedule time step (faults.Shared at first second) there go says
+explained setting schedule time step (faults.Early at op needs) there go says = step_first setting schedule time step (faults.Early at op needs) there go says
+explained setting schedule time step (faults.Twice at op) there go says = step_first setting schedule time step (faults.Twice at op) there go says
 explained setting schedule time step (faults.Missing op) there go says = absurd says.offends
 explained setting schedule time step faults.NoMemory there go says = tt

@@ -8,11 +8,11 @@ use Rattle.qc_base.specs.declared.ids.Ion.{Ion}
 use Rattle.step_rules.specs.declared.action.Action.{Action}
 use Rattle.step_rules.specs.declared.spots.Footprint.{Footprint}
 use Rattle.step_rules.specs.Footprint.{spots}
-use Rattle.step_rules.specs.Setting.{Setting}
+use Rattle.step_rules.specs.Setting.{SettingValue}
 use Rattle.step_rules.specs.Steps.{Spot, footprint}
 use Rattle.schedule_play.specs.declared.fault.PlayFault.{PlayFault}
 use Rattle.schedule_play.specs.declared.fault.PlayFault.TheVariants as faults
-use Rattle.schedule_play.specs.Faults.{behind, IsWell, Offends}
+use Rattle.schedule_play.specs.Judging.{before_of, IsWell, Offends}
 use Rattle.schedule_play.specs.Progress.{AreFlags, marked, Stands, StepIsWell, StepStops, ExplainsStep}
 use Rattle.schedule_play.proofs.Lists.{slice_pushed}
 use Rattle.schedule_play.proofs.Done.{flags_marked}
@@ -24,14 +24,14 @@ some_at (x ∷ xs) (suc k) h = some_at xs k (omega arith)
 
 -- ---- a fault
 
-stops : (setting : Setting) (past : List (List Action)) (step : List Action) (i n : ℕ) (fault : PlayFault) → n ≡ i → i < length step → StepIsWell setting past (take i step)
-    → ((action : Action) → slice_get step n ≡ Some action → Offends setting (behind past (take n step)) action fault) → StepStops setting past step fault
+stops : (setting : SettingValue) (past : List (List Action)) (step : List Action) (i n : ℕ) (fault : PlayFault) → n ≡ i → i < length step → StepIsWell setting past (take i step)
+    → ((action : Action) → slice_get step n ≡ Some action → Offends setting (before_of past (take n step)) action fault) → StepStops setting past step fault
 stops setting past step i n fault same h well offends =
     let it = some_at step n (omega (arith, same)) in
     record { place = n; action = it.0; in_step = it.1; well = subst (λ (k : ℕ). StepIsWell setting past (take k step)) (sym same) well; offends = offends it.0 it.1 }
 
-pub explained_step : (setting : Setting) (past : List (List Action)) (step : List Action) (i n : ℕ) (fault : PlayFault) → n ≡ i → i < length step → StepIsWell setting past (take i step)
-    → ((action : Action) → slice_get step n ≡ Some action → Offends setting (behind past (take n step)) action fault) → ExplainsStep setting past step fault
+pub explained_step : (setting : SettingValue) (past : List (List Action)) (step : List Action) (i n : ℕ) (fault : PlayFault) → n ≡ i → i < length step → StepIsWell setting past (take i step)
+    → ((action : Action) → slice_get step n ≡ Some action → Offends setting (before_of past (take n step)) action fault) → ExplainsStep setting past step fault
 explained_step setting past step i n (faults.Broken at place rule) same h well offends = stops setting past step i n (faults.Broken at place rule) same h well offends
 explained_step setting past step i n (faults.Shared at first second) same h well offends = stops setting past step i n (faults.Shared at first second) same h well offends
 explained_step setting past step i n (faults.Early at op needs) same h well offends = stops setting past step i n (faults.Early at op needs) same h well offends
@@ -41,17 +41,17 @@ explained_step setting past step i n faults.NoMemory same h well offends = tt
 
 -- ---- one more action
 
-pub step_well_pushed : (setting : Setting) (past : List (List Action)) (step : List Action) (action : Action) → StepIsWell setting past step → IsWell setting (behind past step) action → StepIsWell setting past (step ++ action ∷ [])
+pub step_well_pushed : (setting : SettingValue) (past : List (List Action)) (step : List Action) (action : Action) → StepIsWell setting past step → IsWell setting (before_of past step) action → StepIsWell setting past (step ++ action ∷ [])
 step_well_pushed setting past step action well is place other at = elim (slice_pushed step action other place at) [
   | inl there ↦ (let front : take place (step ++ action ∷ []) ≡ take place step = take-append-le place step (action ∷ []) (omega (arith, there.0)) in
-      subst (λ (l : List Action). IsWell setting (behind past l) other) (sym front) (well place other there.1))
+      subst (λ (l : List Action). IsWell setting (before_of past l) other) (sym front) (well place other there.1))
   | inr last ↦ (let front : take place (step ++ action ∷ []) ≡ step = ap (λ (n : ℕ). take n (step ++ action ∷ [])) last.0 ∙ take-append_seam step (action ∷ []) in
-      subst (λ (l : List Action). IsWell setting (behind past l) other) (sym front) (subst (IsWell setting (behind past step)) last.1 is))
+      subst (λ (l : List Action). IsWell setting (before_of past l) other) (sym front) (subst (IsWell setting (before_of past step)) last.1 is))
 ]
 
-stands_more : (setting : Setting) (past : List (List Action)) (step : List Action) (action : Action) (places : List (List Ion)) (early marks early_now marks_now : List Bool) (footprints now : List Footprint) (works : Footprint) →
-    Stands setting (behind past step) places early marks footprints → early_now ≡ early → marks_now ≡ marked marks action → now ≡ footprints ++ works ∷ [] → spots works ≡ footprint setting.trap action
-    → Stands setting (behind past (step ++ action ∷ [])) places early_now marks_now now
+stands_more : (setting : SettingValue) (past : List (List Action)) (step : List Action) (action : Action) (places : List (List Ion)) (early marks early_now marks_now : List Bool) (footprints now : List Footprint) (works : Footprint) →
+    Stands setting (before_of past step) places early marks footprints → early_now ≡ early → marks_now ≡ marked marks action → now ≡ footprints ++ works ∷ [] → spots works ≡ footprint setting.trap action
+    → Stands setting (before_of past (step ++ action ∷ [])) places early_now marks_now now
 stands_more setting past step action places early marks early_now marks_now footprints now works stands same marked_is grown is = record {
   config = stands.config;
   earlier = subst (AreFlags setting.circuit past) (sym same) stands.earlier;
@@ -62,24 +62,24 @@ stands_more setting past step action places early marks early_now marks_now foot
 }
 
 -- what the next action's judgement says, and what is kept then
-pub record Goes (setting : Setting) (past : List (List Action)) (step : List Action) (places : List (List Ion)) (early marks : List Bool) (footprints : List Footprint) : Type 0 where
-  pub stands : Stands setting (behind past step) places early marks footprints
+pub record Goes (setting : SettingValue) (past : List (List Action)) (step : List Action) (places : List (List Ion)) (early marks : List Bool) (footprints : List Footprint) : Type 0 where
+  pub stands : Stands setting (before_of past step) places early marks footprints
   pub well : StepIsWell setting past step
 
-pub goes_on : (setting : Setting) (past : List (List Action)) (step : List Action) (i n : ℕ) (d : Action) (places : List (List Ion)) (early marks early_now marks_now : List Bool) (footprints now : List Footprint) (works : Footprint) →
+pub goes_on : (setting : SettingValue) (past : List (List Action)) (step : List Action) (i n : ℕ) (d : Action) (places : List (List Ion)) (early marks early_now marks_now : List Bool) (footprints now : List Footprint) (works : Footprint) →
     n ≡ i → i < length step → Goes setting past (take i step) places early marks footprints
-    → ((action : Action) → slice_get step n ≡ Some action → IsWell setting (behind past (take n step)) action × (spots works ≡ footprint setting.trap action))
+    → ((action : Action) → slice_get step n ≡ Some action → IsWell setting (before_of past (take n step)) action × (spots works ≡ footprint setting.trap action))
     → early_now ≡ early → marks_now ≡ marked marks (get_or step i d) → now ≡ footprints ++ works ∷ [] → Goes setting past (take (i + 1) step) places early_now marks_now now
 goes_on setting past step i n d places early marks early_now marks_now footprints now works count h goes judged same marked_is grown =
     let action : Action = get_or step i d in
     let at : slice_get step n ≡ Some action = ap (slice_get step) count ∙ slice_get-get_or step i d h in
     let it = judged action at in
-    let well : IsWell setting (behind past (take i step)) action = subst (λ (k : ℕ). IsWell setting (behind past (take k step)) action) count it.0 in
+    let well : IsWell setting (before_of past (take i step)) action = subst (λ (k : ℕ). IsWell setting (before_of past (take k step)) action) count it.0 in
     let front : take (i + 1) step ≡ take i step ++ action ∷ [] = take_more step i d h in
     subst (λ (l : List Action). Goes setting past l places early_now marks_now now) (sym front) (record {
       stands = stands_more setting past (take i step) action places early marks early_now marks_now footprints now works goes.stands same marked_is grown it.1;
       well = step_well_pushed setting past (take i step) action goes.well well;
     })
 
-pub all_well : (setting : Setting) (past : List (List Action)) (step : List Action) (i : ℕ) → length step ≤ i → StepIsWell setting past (take i step) → StepIsWell setting past step
+pub all_well : (setting : SettingValue) (past : List (List Action)) (step : List Action) (i : ℕ) → length step ≤ i → StepIsWell setting past (take i step) → StepIsWell setting past step
 all_well setting past step i h well = subst (StepIsWell setting past) (take_all i step h) well

@@ -1,4 +1,4 @@
 pub mod Faults
-pub mod Nearest
+pub mod Judging
 pub mod Progress
-pub mod Plain
+pub mod Ready

@@ -3,10 +3,8 @@
 
 mod fault;
 mod laws;
-mod nearest;
-#[cfg(test)]
-mod plain;
 mod progress;
+mod ready;
 mod simulator;
 #[cfg(test)]
 mod tests;

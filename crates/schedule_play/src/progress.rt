@@ -1,32 +1,21 @@
 //! Which operations were performed.
 
-ghost use Rattle.std.specs.Prelude.{◌≡◌, ℕ, ◌<◌, length, not, true, false, IsTrue, ◌↔◌, slice_index_or, IfOk, IfSome, MatchOption, [], ◌∷◌};
-ghost use Rattle.step_rules.specs.Tests.{is_performed as performed_in};
-ghost use Rattle.schedule_play.specs.Nearest.{AreNearest};
-ghost use Rattle.schedule_play.specs.Progress.{AreFlags, marked, IsOwed, IsOwedFirst, IsClosed, IsUndone, IsMissing};
+ghost use Rattle.std.specs.Prelude.{◌≡◌, ℕ, ◌<◌, length, false, IsTrue, ◌↔◌, slice_index_or, IfOk, MatchOption, [], ◌∷◌};
+ghost use Rattle.schedule_play.specs.Progress.{AreFlags, marked, IsOwed, IsOwedFirst, IsUndone, IsMissing};
+ghost use Rattle.schedule_play.specs.Ready.{AreClosed, IsReadyTable, IsReadyThroughout};
 
-use crate::nearest::{Nearest, nearest_of_each};
-use circuit_core::{Circuit, Op, forced};
+use crate::ready::{is_performed, ready_steps};
+use circuit_core::{Circuit, forced};
 use qc_base::{NoMemory, OpId};
 use std::alloc::Global;
-use step_rules::Action;
+use step_rules::{Action, Step};
 
 /// What was performed in earlier steps, and what with the step that is played.
 #[derive(Debug, Drop)]
 pub(crate) struct Progress {
-    pub nearest: Vec<Nearest>,
+    pub ready: Vec<u64>,
     pub earlier: Vec<bool>,
     pub done: Vec<bool>,
-}
-
-// Whether there is such an operation, and an action performs it; a barrier is performed by none.
-fn is_performed(circuit: &Circuit, op: OpId) -> bool
-    ensures { result ≡ performed_in circuit.now op.0 }
-{
-    match circuit.op(op) {
-        Some(Op::Cx { .. }) => true,
-        None => false,
-    }
 }
 
 // Flags the operation that the action performs.
@@ -38,17 +27,6 @@ fn mark(flags: &mut Vec<bool>, action: &Action)
         if number < flags.len() {
             flags[number] = true;
         }
-    }
-}
-
-// Whether there is no such operation, or it has its flag.
-fn is_settled(flags: &[bool], op: Option<OpId>) -> bool
-    requires { IfSome op (λ op. op.0 < length flags.now) }
-    ensures { MatchOption op (result ≡ true) (λ op. result ≡ slice_index_or flags.now op.0 false) }
-{
-    match op {
-        Some(op) => flags[op.0 as usize],
-        None => true,
     }
 }
 
@@ -66,7 +44,9 @@ fn is_owed(circuit: &Circuit, flags: &[bool], needs: OpId, op: OpId) -> bool
 // The least operation without a flag that has to come before that one.
 fn least_owed(circuit: &Circuit, flags: &[bool], op: OpId) -> Option<OpId>
     requires { length flags.now ≡ length circuit.now.ops }
-    ensures { MatchOption result ((needs : ℕ) → IsOwed circuit.now flags.now op.0 needs → ⊥) (λ needs. IsOwedFirst circuit.now flags.now op.0 needs.0) }
+    ensures { MatchOption result
+        ((needs : ℕ) → IsOwed circuit.now flags.now op.0 needs → ⊥)
+        (λ needs. IsOwedFirst circuit.now flags.now op.0 needs.0) }
 {
     for number in 0..circuit.ops().len() as u32 {
         let needs = OpId(number);
@@ -78,30 +58,31 @@ fn least_owed(circuit: &Circuit, flags: &[bool], op: OpId) -> Option<OpId>
 }
 
 impl Progress {
-    /// Nothing is performed.
-    pub fn start(alloc: Global, circuit: &Circuit) -> Result<Progress, NoMemory>
-        ensures nearest { IfOk result (λ progress. AreNearest circuit.now progress.nearest.items) }
+    /// Nothing is performed; these steps will be played.
+    pub fn start(alloc: Global, circuit: &Circuit, steps: &[Step]) -> Result<Progress, NoMemory>
+        ensures ready { IfOk result (λ progress. IsReadyThroughout circuit.now steps.now progress.ready.items) }
         ensures earlier { IfOk result (λ progress. AreFlags circuit.now [] progress.earlier.items) }
         ensures done { IfOk result (λ progress. AreFlags circuit.now ([] ∷ []) progress.done.items) }
     {
         let count = circuit.ops().len();
         Ok(Progress {
-            nearest: nearest_of_each(alloc, circuit)?,
+            ready: ready_steps(alloc, circuit, steps)?,
             earlier: vec![in alloc; false; count]?,
             done: vec![in alloc; false; count]?,
         })
     }
 
-    /// The least operation that has to come before that one and was not performed in an earlier step.
-    pub fn owed(&self, circuit: &Circuit, op: OpId) -> Option<OpId>
-        requires nearest { AreNearest circuit.now self.now.nearest.items }
-        requires len { length self.now.earlier.items ≡ length circuit.now.ops }
-        requires closed { IsClosed circuit.now self.now.earlier.items }
+    /// The least operation that has to come before that one and was not performed in the earlier steps.
+    pub fn owed(&self, circuit: &Circuit, past: &[Step], op: OpId) -> Option<OpId>
+        requires ready { IsReadyTable circuit.now past.now self.now.ready.items }
+        requires earlier { AreFlags circuit.now past.now self.now.earlier.items }
+        requires closed { AreClosed circuit.now past.now }
         requires there { op.0 < length circuit.now.ops }
-        ensures { MatchOption result ((needs : ℕ) → IsOwed circuit.now self.now.earlier.items op.0 needs → ⊥) (λ needs. IsOwedFirst circuit.now self.now.earlier.items op.0 needs.0) }
+        ensures { MatchOption result
+            ((needs : ℕ) → IsOwed circuit.now self.now.earlier.items op.0 needs → ⊥)
+            (λ needs. IsOwedFirst circuit.now self.now.earlier.items op.0 needs.0) }
     {
-        let near = self.nearest[op.0 as usize];
-        if is_settled(&self.earlier, near.control) && is_settled(&self.earlier, near.target) {
+        if self.ready[op.0 as usize] <= past.len() as u64 {
             return None;
         }
         least_owed(circuit, &self.earlier, op)
@@ -119,7 +100,7 @@ impl Progress {
     pub fn note(&mut self, action: &Action)
         ensures done { self.new.done.items ≡ marked self.old.done.items action.now }
         ensures earlier { self.new.earlier ≡ self.old.earlier }
-        ensures nearest { self.new.nearest ≡ self.old.nearest }
+        ensures ready { self.new.ready ≡ self.old.ready }
     {
         mark(&mut self.done, action);
     }
@@ -128,7 +109,7 @@ impl Progress {
     pub fn settle(&mut self, action: &Action)
         ensures earlier { self.new.earlier.items ≡ marked self.old.earlier.items action.now }
         ensures done { self.new.done ≡ self.old.done }
-        ensures nearest { self.new.nearest ≡ self.old.nearest }
+        ensures ready { self.new.ready ≡ self.old.ready }
     {
         mark(&mut self.earlier, action);
     }
@@ -144,7 +125,9 @@ impl Progress {
     /// The least operation that was not performed.
     pub fn missing(&self, circuit: &Circuit) -> Option<OpId>
         requires { length self.now.done.items ≡ length circuit.now.ops }
-        ensures { MatchOption result ((op : ℕ) → IsUndone circuit.now self.now.done.items op → ⊥) (λ op. IsMissing circuit.now self.now.done.items op.0) }
+        ensures { MatchOption result
+            ((op : ℕ) → IsUndone circuit.now self.now.done.items op → ⊥)
+            (λ op. IsMissing circuit.now self.now.done.items op.0) }
     {
         for number in 0..circuit.ops().len() as u32 {
             let op = OpId(number);

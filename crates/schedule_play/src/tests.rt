@@ -1,21 +1,21 @@
-//! Schedules that play, the first fault of those that don't, and a plain simulator that is compared with the other.
+//! Schedules that play, and the first fault of those that don't.
 
-ghost use Rattle.std.specs.Prelude.{◌≡◌, ◌<◌, IsTrue, All, IfOk};
-ghost use Rattle.circuit_core.specs.Circuit.{qubit_count, IsOpOn};
+ghost use Rattle.std.specs.Prelude.{◌≡◌, ◌≢◌, ◌<◌, ◌≤◌, length, IsTrue, All, IfOk};
+ghost use Rattle.circuit_core.specs.Op.{IsOp, angles_of};
+ghost use Rattle.circuit_core.specs.Circuit.{nodes_in, all_nodes, qubit_count};
 ghost use Rattle.trap_model.specs.Names.{is_name};
 ghost use Rattle.trap_model.specs.Build.{AreNames};
 ghost use Rattle.step_rules.specs.Placement.{IsPlacement};
 ghost use Rattle.step_rules.specs.Config.{IsConfigOf};
 
 use crate::fault::PlayFault;
-use crate::plain::slow_play;
 use crate::simulator::play;
-use circuit_core::{Circuit, Op, Reg};
+use circuit_core::{Angle, Circuit, Op, Qubits, Reg};
 use qc_base::{End, Ion, JunctionId, Name, NoMemory, OpId, PlaceId, Qubit};
 use std::alloc::Global;
 use std::process::Abort;
 use std::test::Fail;
-use step_rules::{Action, Config, GivenFault, Placement, Qubits, Rule, Schedule};
+use step_rules::{Action, Config, GivenFault, Placement, Rule, Schedule};
 use trap_model::{EndName, JoinPart, SegmentPart, Trap, TrapParts, ZonePart};
 
 fn zone(alloc: Global, name: &[u8]) -> Result<ZonePart, NoMemory>
@@ -25,7 +25,7 @@ fn zone(alloc: Global, name: &[u8]) -> Result<ZonePart, NoMemory>
     Ok(ZonePart {
         name: Name::from_bytes(alloc, name)?,
         capacity: 3,
-        one: false,
+        one: true,
         two: true,
         read: false,
     })
@@ -126,20 +126,44 @@ fn star(alloc: Global) -> Result<Trap, Fail> {
     trap_of(alloc, segments, &joins)
 }
 
+// CX on two of four qubits.
+fn cx(control: u32, target: u32) -> Op
+    requires control { control < 4 }
+    requires target { target < 4 }
+    requires other { control ≢ target }
+    ensures op { IsOp 4 0 0 result }
+    ensures nodes { nodes_in (angles_of result) ≡ 0 }
+{
+    Op::Cx {
+        control: Qubit(control),
+        target: Qubit(target),
+        cond: None,
+    }
+}
+
 // The operations on these pairs of four qubits.
 fn ops_of(rt: &impl Abort, alloc: Global, pairs: &[(u32, u32)]) -> Result<Vec<Op>, NoMemory>
-    ensures { IfOk result (λ ops. All (IsOpOn 4) ops.items) }
+    ensures ops { IfOk result (λ ops. All (IsOp 4 0 0) ops.items) }
+    ensures nodes { IfOk result (λ ops. all_nodes ops.items ≡ 0) }
 {
     let mut ops = Vec::new(alloc);
     for (control, target) in pairs {
         assert!(rt; *control < 4 && *target < 4 && *control != *target);
-        ops.push(Op::Cx {
-            control: Qubit(*control),
-            target: Qubit(*target),
-            cond: None,
-        })?;
+        ops.push(cx(*control, *target))?;
     }
     Ok(ops)
+}
+
+// Four qubits, and these operations on them.
+fn circuit_on(alloc: Global, ops: Vec<Op>) -> Result<Circuit, NoMemory>
+    requires ops { All (IsOp 4 0 0) ops.items }
+    requires few { length ops.items ≤ 10 }
+    requires nodes { all_nodes ops.items ≤ 6 }
+    ensures { IfOk result (λ circuit. qubit_count circuit ≡ 4) }
+{
+    let name = Name::from_bytes(alloc, b"q")?;
+    let qregs = Vec::from_array(alloc, [Reg { name, size: 4 }])?;
+    Ok(Circuit::new(qregs, Vec::new(alloc), ops))
 }
 
 fn circuit_of(rt: &impl Abort, alloc: Global, pairs: &[(u32, u32)]) -> Result<Circuit, NoMemory>
@@ -147,10 +171,7 @@ fn circuit_of(rt: &impl Abort, alloc: Global, pairs: &[(u32, u32)]) -> Result<Ci
 {
     let ops = ops_of(rt, alloc, pairs)?;
     assert!(rt; ops.len() <= 10);
-    let name = Name::from_bytes(alloc, b"q")?;
-    let mut qregs = Vec::new(alloc);
-    qregs.push(Reg { name, size: 4 })?;
-    Ok(Circuit::new(qregs, Vec::new(alloc), ops))
+    circuit_on(alloc, ops)
 }
 
 fn are_below(qubits: &[Qubit], count: u32) -> bool
@@ -295,89 +316,6 @@ fn plays(
     Ok(())
 }
 
-// ---- both simulators
-
-// What is done to a schedule: nothing, or the step of that number is left out, is there twice, or is joined with the one before.
-#[derive(Clone, Copy)]
-enum Change {
-    Keep,
-    Leave(usize),
-    Repeat(usize),
-    Join(usize),
-}
-
-fn changed(
-    rt: &impl Abort,
-    alloc: Global,
-    steps: &[&[Action]],
-    change: Change,
-) -> Result<Schedule, NoMemory> {
-    let mut schedule = Schedule::new(alloc);
-    for (number, actions) in steps.iter().enumerate() {
-        match change {
-            Change::Leave(at) if at == number => {}
-            Change::Repeat(at) if at == number => {
-                add_step(rt, &mut schedule, actions)?;
-                add_step(rt, &mut schedule, actions)?;
-            }
-            Change::Join(at) if at == number && number > 0 => {
-                add_actions(rt, &mut schedule, actions)?;
-            }
-            _ => add_step(rt, &mut schedule, actions)?,
-        }
-    }
-    Ok(schedule)
-}
-
-// Compares the lists of all places.
-fn agree(rt: &impl Abort, trap: &Trap, one: &Config, other: &Config)
-    requires one { IsConfigOf trap.now one.now }
-    requires other { IsConfigOf trap.now other.now }
-{
-    for place in 0..trap.places() {
-        assert!(rt; one.list(PlaceId(place)) == other.list(PlaceId(place)));
-    }
-}
-
-// Plays the changed steps by both simulators and compares what they answer.
-fn same_verdict(
-    rt: &impl Abort,
-    alloc: Global,
-    trap: &Trap,
-    pairs: &[(u32, u32)],
-    steps: &[&[Action]],
-    change: Change,
-) -> Result<(), Fail> {
-    let circuit = circuit_of(rt, alloc, pairs)?;
-    let placement = placed(rt, alloc, trap, &circuit)?;
-    let schedule = changed(rt, alloc, steps, change)?;
-    let one = play(alloc, trap, &circuit, &placement, &schedule);
-    let other = slow_play(alloc, trap, &circuit, &placement, &schedule);
-    match (one, other) {
-        (Ok(config), Ok(slow)) => agree(rt, trap, &config, &slow),
-        (Err(fault), Err(slow)) => assert!(rt; fault == slow, "{fault:?} {slow:?}"),
-        _ => assert!(rt; false, "one plays"),
-    }
-    Ok(())
-}
-
-// Compares the simulators at the steps as they are and at each change of them.
-fn same_verdicts(
-    rt: &impl Abort,
-    alloc: Global,
-    trap: &Trap,
-    pairs: &[(u32, u32)],
-    steps: &[&[Action]],
-) -> Result<(), Fail> {
-    same_verdict(rt, alloc, trap, pairs, steps, Change::Keep)?;
-    for number in 0..steps.len() {
-        same_verdict(rt, alloc, trap, pairs, steps, Change::Leave(number))?;
-        same_verdict(rt, alloc, trap, pairs, steps, Change::Repeat(number))?;
-        same_verdict(rt, alloc, trap, pairs, steps, Change::Join(number))?;
-    }
-    Ok(())
-}
-
 #[test]
 fn schedules_that_play(rt: HostRuntime) -> Result<(), Fail> {
     let alloc = rt.alloc();
@@ -479,37 +417,78 @@ fn operations_out_of_order(rt: HostRuntime) -> Result<(), Fail> {
     stops(&rt, alloc, &trap, &pairs, &missing, fault)
 }
 
+// A gate on one of four qubits.
+fn rotation(qubit: u32) -> Op
+    requires { qubit < 4 }
+    ensures op { IsOp 4 0 0 result }
+    ensures nodes { nodes_in (angles_of result) ≡ 3 }
+{
+    Op::U {
+        theta: Angle::Pi,
+        phi: Angle::Pi,
+        lambda: Angle::Pi,
+        qubit: Qubit(qubit),
+        cond: None,
+    }
+}
+
+// A barrier on two of four qubits.
+fn barrier(alloc: Global, first: u32, second: u32) -> Result<Op, NoMemory>
+    requires first { first < 4 }
+    requires second { second < 4 }
+    requires other { first ≢ second }
+    ensures op { IfOk result (IsOp 4 0 0) }
+    ensures nodes { IfOk result (λ op. nodes_in (angles_of op) ≡ 0) }
+{
+    let qubits = Vec::from_array(alloc, [Qubit(first), Qubit(second)])?;
+    Ok(Op::Barrier {
+        qubits: Qubits::from_vec(qubits),
+    })
+}
+
+// A gate on qubit 0, two barriers that lead from there to qubit 2, and a gate on it.
+fn barriers(alloc: Global) -> Result<Circuit, NoMemory>
+    ensures { IfOk result (λ circuit. qubit_count circuit ≡ 4) }
+{
+    let first = barrier(alloc, 0, 1)?;
+    let second = barrier(alloc, 1, 2)?;
+    let ops = Vec::from_array(alloc, [rotation(0), first, second, rotation(2)])?;
+    circuit_on(alloc, ops)
+}
+
+// Plays the steps from the circuit with barriers.
+fn answer(
+    rt: &impl Abort,
+    alloc: Global,
+    trap: &Trap,
+    steps: &[&[Action]],
+) -> Result<Option<PlayFault>, Fail> {
+    let circuit = barriers(alloc)?;
+    let placement = placed(rt, alloc, trap, &circuit)?;
+    let schedule = schedule_of(rt, alloc, steps)?;
+    Ok(play(alloc, trap, &circuit, &placement, &schedule).err())
+}
+
 #[test]
-fn both_simulators(rt: HostRuntime) -> Result<(), Fail> {
+fn barriers_between_operations(rt: HostRuntime) -> Result<(), Fail> {
     let alloc = rt.alloc();
     let trap = line(alloc, 1, 2)?;
-    let over: [&[Action]; 7] = [
-        &[op(0, 0), op(1, 2)],
-        &[split(0, End::B, 1)],
-        &[cross(2, 3)],
-        &[merge(1, End::A)],
-        &[op(1, 1)],
-        &[op(1, 3)],
-        &[op(1, 4)],
-    ];
-    let pairs = [(0, 1), (1, 2), (3, 2), (2, 1), (3, 1)];
-    same_verdicts(&rt, alloc, &trap, &pairs, &over)?;
-    let row = line(alloc, 3, 2)?;
-    let chain: [&[Action]; 6] = [
-        &[split(0, End::B, 1)],
-        &[goes(2, 3), op(1, 0)],
-        &[split(0, End::B, 1)],
-        &[goes(3, 4), op(1, 1)],
-        &[goes(2, 3)],
-        &[op(1, 2)],
-    ];
-    same_verdicts(&rt, alloc, &row, &[(2, 3), (3, 2), (2, 3)], &chain)?;
-    let star = star(alloc)?;
-    let crossings: [&[Action]; 4] = [
-        &[split(0, End::B, 1), split(1, End::B, 1)],
-        &[cross(2, 4)],
-        &[cross(3, 5)],
-        &[cross(4, 2), cross(5, 3)],
-    ];
-    same_verdicts(&rt, alloc, &star, &[], &crossings)
+    let last_first: [&[Action]; 1] = [&[op(1, 3)]];
+    let early = PlayFault::Early {
+        step: 1,
+        op: OpId(3),
+        needs: OpId(0),
+    };
+    assert!(rt; answer(&rt, alloc, &trap, &last_first)? == Some(early));
+    let together: [&[Action]; 1] = [&[op(0, 0), op(1, 3)]];
+    assert!(rt; answer(&rt, alloc, &trap, &together)? == Some(early));
+    let in_order: [&[Action]; 2] = [&[op(0, 0)], &[op(1, 3)]];
+    assert!(rt; answer(&rt, alloc, &trap, &in_order)?.is_none());
+    let performed: [&[Action]; 2] = [&[op(0, 0)], &[op(0, 1)]];
+    let not_op = broken(2, 1, Rule::NotOp);
+    assert!(rt; answer(&rt, alloc, &trap, &performed)? == Some(not_op));
+    let missing: [&[Action]; 1] = [&[op(0, 0)]];
+    let fault = PlayFault::Missing { op: OpId(3) };
+    assert!(rt; answer(&rt, alloc, &trap, &missing)? == Some(fault));
+    Ok(())
 }

@@ -4,11 +4,12 @@ use Rattle.std.specs.Prelude.{◌==◌, not, find, slice_get}
 use Rattle.std.specs.List.{range_with_len}
 use Rattle.std.proofs.lemmas.Bool.{le-leb, cases_Bool, cond-true, eq-eqb}
 use Rattle.qc_base.specs.declared.ids.Qubit.{Qubit}
-use Rattle.circuit_core.specs.Circuit.{Parts, qubit_count}
-use Rattle.trap_model.specs.Trap.{Lists, limit_of}
+use Rattle.circuit_core.specs.Circuit.{CircuitValue, qubit_count}
+use Rattle.trap_model.specs.Trap.{TrapValue, limit_of}
 use Rattle.step_rules.specs.declared.placement.GivenFault.{GivenFault}
 use Rattle.step_rules.specs.declared.placement.GivenFault.TheVariants as given_faults
-use Rattle.step_rules.specs.Placement.{IsPlacement, reading_order, times, stands, first_repeated, zone_fault, zones_fault, missing_fault, placement_of, Gives}
+use Rattle.circuit_core.specs.Deciding.{stands}
+use Rattle.step_rules.specs.Placement.{IsPlacement, reading_order, times, first_repeated, zone_fault, zones_fault, missing_fault, placement_of, Gives}
 use Rattle.step_rules.proofs.Reading.{times-append, times_none, times_some}
 use Rattle.schedule_text.proofs.Counted.{at_most_once}
 
@@ -25,10 +26,10 @@ none_repeated before (q ∷ list) once =
       | inr new ↦ rw (new, later) refl
     ]
 
-none_full : (trap : Lists) (zone : ℕ) (before list : List Qubit) → ((k : ℕ) → times k (before ++ list) ≤ 1) → length list ≤ limit_of trap zone → zone_fault trap zone before list ≡ None
+none_full : (trap : TrapValue) (zone : ℕ) (before list : List Qubit) → ((k : ℕ) → times k (before ++ list) ≤ 1) → length list ≤ limit_of trap zone → zone_fault trap zone before list ≡ None
 none_full trap zone before list once room = rw (none_repeated before list once, le-leb _ _ room) refl
 
-none_wrong : (trap : Lists) (zone : ℕ) (before : List Qubit) (lists : List (List Qubit)) → ((k : ℕ) → times k (before ++ reading_order lists) ≤ 1)
+none_wrong : (trap : TrapValue) (zone : ℕ) (before : List Qubit) (lists : List (List Qubit)) → ((k : ℕ) → times k (before ++ reading_order lists) ≤ 1)
     → ((k : ℕ) (list : List Qubit) → slice_get lists k ≡ Some list → length list ≤ limit_of trap (zone + k)) → zones_fault trap zone before lists ≡ None
 none_wrong trap zone before [] once room = refl
 none_wrong trap zone before (list ∷ lists) once room =
@@ -50,19 +51,19 @@ stands_so k list once = elim (cases_Bool (stands k list)) [
   | inr missing ↦ absurd (omega (arith, once, times_none k list missing))
 ]
 
-none_missing : (circuit : Parts) (lists : List (List Qubit)) → ((k : ℕ) → k < qubit_count circuit → times k (reading_order lists) ≡ 1) → missing_fault circuit lists ≡ None
+none_missing : (circuit : CircuitValue) (lists : List (List Qubit)) → ((k : ℕ) → k < qubit_count circuit → times k (reading_order lists) ≡ 1) → missing_fault circuit lists ≡ None
 none_missing circuit lists once =
     let test : ℕ → Bool = λ number. not (stands number (reading_order lists)) in
     let none : find test (range_with_len 0 (qubit_count circuit)) ≡ None = none_found test 0 (qubit_count circuit) (λ k low high. stands_so k (reading_order lists) (once k (omega (arith, high)))) in
     rw none refl
 
-pub placement_is : (trap : Lists) (circuit : Parts) (lists : List (List Qubit)) → IsPlacement trap circuit lists → placement_of trap circuit lists ≡ Ok lists
+pub placement_is : (trap : TrapValue) (circuit : CircuitValue) (lists : List (List Qubit)) → IsPlacement trap circuit lists → placement_of trap circuit lists ≡ Ok lists
 placement_is trap circuit lists placed =
     let wrong = none_wrong trap 0 [] lists (at_most_once (qubit_count circuit) (reading_order lists) placed.qubits placed.once)
     (λ k list e. let same : k ≡ 0 + k = omega arith in subst (λ (z : ℕ). length list ≤ limit_of trap z) same (placed.room k list e)) in
     rw (wrong, none_missing circuit lists placed.once) refl
 
--- what is accepted is refused for want of memory alone
+-- what is accepted is refused for out of memory alone
 pub placed_unless : (lists : List (List Qubit)) (fault : GivenFault) → Gives (Err fault) (Ok lists) → fault ≢ given_faults.NoMemory → ⊥
 placed_unless lists (given_faults.Repeated qubit) said other = cc
 placed_unless lists (given_faults.Full zone) said other = cc

@@ -1,4 +1,4 @@
--- What comes next in a text behind some of its steps.
+-- What comes next in a text after some of its steps.
 use Rattle.std.proofs.Common.{◌≡◌, ℕ, ◌+◌, ◌^◌, ◌<◌, ◌≤◌, List, [], ◌∷◌, ◌++◌, length, refl, sym, ap, subst, ◌∙◌, arith, append_assoc, length-append}
 use Rattle.std.specs.Prelude.{All, decimal, codes}
 use Rattle.std.specs.List.{flat_map}
@@ -7,13 +7,13 @@ use Rattle.std.proofs.lemmas.List.{append-nil}
 use Rattle.std.proofs.lemmas.List.Elements.{All-nil, All-cons, All-append, All-head, All-tail}
 use Rattle.qc_base.specs.declared.ids.Qubit.{Qubit}
 use Rattle.qc_base.proofs.Words.{same_rest}
-use Rattle.circuit_core.specs.Circuit.{Parts, IsCircuit}
-use Rattle.trap_model.specs.Trap.{Lists}
+use Rattle.circuit_core.specs.Circuit.{CircuitValue, IsCircuit}
+use Rattle.trap_model.specs.Trap.{TrapValue}
 use Rattle.trap_model.specs.Build.{IsTrap}
 use Rattle.step_rules.specs.declared.action.Action.{Action}
 use Rattle.step_rules.specs.Placement.{IsPlacement}
 use Rattle.step_rules.specs.Schedule.{AddsToLast}
-use Rattle.step_rules.specs.Setting.{Setting, setting_of}
+use Rattle.step_rules.specs.Setting.{SettingValue, setting_of}
 use Rattle.schedule_text.specs.Text.{place_lines, action_line, step_lines}
 use Rattle.schedule_text.specs.Reading.{IsKnown, Spells, IsText, BeginsText, Refuses, whole_lines}
 use Rattle.schedule_text.specs.Progress.{head_text, steps_text, line_text, MayFollow, Sticks}
@@ -25,22 +25,22 @@ use Rattle.schedule_text.proofs.Lines.{parted}
 use Rattle.schedule_text.proofs.Codes.{number_line, one_action_line, one_body_line, body_is_line, one_step, no_step, NoAction, steps_no_action}
 use Rattle.schedule_text.proofs.Placing.{lines_of, steps_begin}
 use Rattle.schedule_text.proofs.BadLines.{parted_by, parted_at_end, refused}
-use Rattle.schedule_text.proofs.Follows.{all_behind, placed_opened}
+use Rattle.schedule_text.proofs.Follows.{all_after, placed_opened}
 
 -- ---- the next line of a body
 
 -- it may come after the steps that have begun, of so many in all, where the next step has that number
-record NextBody (trap : Lists) (circuit : Parts) (placement : List (List Qubit)) (count number : ℕ) (begun : List (List Action)) (more : List ℕ) : Type 0 where
+record NextBody (trap : TrapValue) (circuit : CircuitValue) (placement : List (List Qubit)) (count number : ℕ) (begun : List (List Action)) (more : List ℕ) : Type 0 where
   line : BodyLine
-  behind : List ℕ
+  after : List ℕ
   may : MayFollow trap circuit count begun line
-  more_is : more ≡ line_text (setting_of trap circuit placement) number line ++ behind
-  last : line ≡ lines.End → behind ≡ []
+  more_is : more ≡ line_text (setting_of trap circuit placement) number line ++ after
+  last : line ≡ lines.End → after ≡ []
 
 -- the actions of the last step that has begun are over
-next_step : (trap : Lists) (circuit : Parts) (placement : List (List Qubit)) (count number : ℕ) (begun steps : List (List Action)) (more : List ℕ) → length begun + length steps ≡ count
+next_step : (trap : TrapValue) (circuit : CircuitValue) (placement : List (List Qubit)) (count number : ℕ) (begun steps : List (List Action)) (more : List ℕ) → length begun + length steps ≡ count
     → more ≡ step_lines (setting_of trap circuit placement) number steps ++ codes "end\n" → NextBody trap circuit placement count number begun more
-next_step trap circuit placement count number begun [] more all e = record { line = lines.End; behind = []; may = omega (arith, all); more_is = e; last = λ same. refl }
+next_step trap circuit placement count number begun [] more all e = record { line = lines.End; after = []; may = omega (arith, all); more_is = e; last = λ same. refl }
 next_step trap circuit placement count number begun (step ∷ steps) more all e =
     let setting = setting_of trap circuit placement in
     let head = codes "step " ++ decimal number ++ codes "\n" in
@@ -48,14 +48,14 @@ next_step trap circuit placement count number begun (step ∷ steps) more all e 
     let later = step_lines setting (number + 1) steps in
     record {
       line = lines.Step;
-      behind = actions ++ (later ++ codes "end\n");
+      after = actions ++ (later ++ codes "end\n");
       may = omega (arith, all);
       more_is = e ∙ append_assoc (head ++ actions) later (codes "end\n") ∙ append_assoc head actions (later ++ codes "end\n");
       last = λ same. absurd cc;
     }
 
 -- an action more, or they are over
-next_action : (trap : Lists) (circuit : Parts) (placement : List (List Qubit)) (count number : ℕ) (begun : List (List Action)) (step other : List Action) (steps : List (List Action)) (more : List ℕ)
+next_action : (trap : TrapValue) (circuit : CircuitValue) (placement : List (List Qubit)) (count number : ℕ) (begun : List (List Action)) (step other : List Action) (steps : List (List Action)) (more : List ℕ)
     → IsTrap trap → IsCircuit circuit → 0 < length begun → length begun + length steps ≡ count → All (IsKnown trap circuit) step → All (IsKnown trap circuit) other
     → flat_map (action_line (setting_of trap circuit placement)) step ++ more
     ≡ flat_map (action_line (setting_of trap circuit placement)) other ++ (step_lines (setting_of trap circuit placement) number steps ++ codes "end\n")
@@ -65,7 +65,7 @@ next_action trap circuit placement count number begun [] (action ∷ other) step
     let setting = setting_of trap circuit placement in
     record {
       line = lines.Act action;
-      behind = flat_map (action_line setting) other ++ (step_lines setting number steps ++ codes "end\n");
+      after = flat_map (action_line setting) other ++ (step_lines setting number steps ++ codes "end\n");
       may = (some, All-head (IsKnown trap circuit) action other also);
       more_is = e ∙ append_assoc (action_line setting action) (flat_map (action_line setting) other) _;
       last = λ same. absurd cc;
@@ -83,8 +83,8 @@ next_action trap circuit placement count number begun (a ∷ step) (b ∷ other)
 step_parts : (head step steps rest : List ℕ) → (head ++ step ++ steps) ++ rest ≡ head ++ (step ++ (steps ++ rest))
 step_parts head step steps rest = simp append_assoc
 
--- behind steps that have begun in a text, too
-next_body : (trap : Lists) (circuit : Parts) (placement : List (List Qubit)) (count number next : ℕ) (begun steps others : List (List Action)) (more : List ℕ) → IsTrap trap → IsCircuit circuit
+-- after steps that have begun in a text, too
+next_body : (trap : TrapValue) (circuit : CircuitValue) (placement : List (List Qubit)) (count number next : ℕ) (begun steps others : List (List Action)) (more : List ℕ) → IsTrap trap → IsCircuit circuit
     → next ≡ number + length steps → length begun + length others ≡ count + length steps → length steps ≤ length begun → All (All (IsKnown trap circuit)) steps → All (All (IsKnown trap circuit)) others
     → step_lines (setting_of trap circuit placement) number steps ++ more ≡ step_lines (setting_of trap circuit placement) number others ++ codes "end\n"
     → NextBody trap circuit placement count next begun more
@@ -118,26 +118,26 @@ count_parts : (word number rest : List ℕ) → (word ++ number ++ codes "\n") +
 count_parts word number rest = simp append_assoc
 
 -- the same of whole texts
-next_line : (trap : Lists) (circuit : Parts) (placement : List (List Qubit)) (count : ℕ) (steps : List (List Action)) (more : List ℕ) → IsTrap trap → IsCircuit circuit → IsPlacement trap circuit placement
+next_line : (trap : TrapValue) (circuit : CircuitValue) (placement : List (List Qubit)) (count : ℕ) (steps : List (List Action)) (more : List ℕ) → IsTrap trap → IsCircuit circuit → IsPlacement trap circuit placement
     → count < 2 ^ 64 → All (All (IsKnown trap circuit)) steps
     → IsText trap circuit ((head_text trap circuit placement ++ steps_text (setting_of trap circuit placement) count steps) ++ more)
     → NextBody trap circuit placement count (length steps + 1) steps more
 next_line trap circuit placement count steps more t c placed few known text =
     let setting = setting_of trap circuit placement in
     let head = head_text trap circuit placement in
-    let behind =
-    all_behind trap circuit placement (steps_text setting count steps ++ more) c (placed_opened trap circuit placement placed) placed.zones
+    let after =
+    all_after trap circuit placement (steps_text setting count steps ++ more) c (placed_opened trap circuit placement placed) placed.zones
     (subst (IsText trap circuit) (append_assoc head (steps_text setting count steps) more) text) in
-    let others = behind.steps in
+    let others = after.steps in
     let lines = step_lines setting 1 steps ++ more in
     let other_lines = step_lines setting 1 others ++ codes "end\n" in
     let parts =
-    sym (count_parts (codes "steps ") (decimal count) lines) ∙ sym (append_assoc (codes "steps " ++ decimal count ++ codes "\n") (step_lines setting 1 steps) more) ∙ behind.more_is
+    sym (count_parts (codes "steps ") (decimal count) lines) ∙ sym (append_assoc (codes "steps " ++ decimal count ++ codes "\n") (step_lines setting 1 steps) more) ∙ after.more_is
     ∙ count_parts (codes "steps ") (decimal (length others)) other_lines in
-    let counted = number_line count (length others) lines other_lines few behind.few (same_rest (codes "steps ") _ _ parts) in
-    next_body trap circuit placement count 1 (length steps + 1) steps steps others more t c (omega arith) (omega (arith, counted.0)) (omega arith) known behind.known counted.1
+    let counted = number_line count (length others) lines other_lines few after.few (same_rest (codes "steps ") _ _ parts) in
+    next_body trap circuit placement count 1 (length steps + 1) steps steps others more t c (omega arith) (omega (arith, counted.0)) (omega arith) known after.known counted.1
 
-pub body_sticks : (trap : Lists) (circuit : Parts) (placement : List (List Qubit)) (count : ℕ) (steps : List (List Action)) (bytes : List ℕ) → IsTrap trap → IsCircuit circuit
+pub body_sticks : (trap : TrapValue) (circuit : CircuitValue) (placement : List (List Qubit)) (count : ℕ) (steps : List (List Action)) (bytes : List ℕ) → IsTrap trap → IsCircuit circuit
     → IsPlacement trap circuit placement → count < 2 ^ 64 → All (All (IsKnown trap circuit)) steps
     → ((line : BodyLine) (rest : List ℕ) → MayFollow trap circuit count steps line → bytes ≡ line_text (setting_of trap circuit placement) (length steps + 1) line ++ rest → ⊥)
     → Sticks trap circuit (head_text trap circuit placement ++ steps_text (setting_of trap circuit placement) count steps) bytes
@@ -145,32 +145,32 @@ body_sticks trap circuit placement count steps bytes t c placed few known none m
     let next = next_line trap circuit placement count steps more t c placed few known text in
     parted_by more bytes (record {
       line = line_text (setting_of trap circuit placement) (length steps + 1) next.line;
-      behind = next.behind;
+      after = next.after;
       is_line = body_is_line trap circuit placement count steps next.line t c placed few next.may;
       more_is = next.more_is;
       differs = λ other e. none next.line other next.may e;
     })
 
--- behind the last line nothing comes
-pub end_sticks : (trap : Lists) (circuit : Parts) (placement : List (List Qubit)) (count : ℕ) (steps : List (List Action)) (bytes : List ℕ) → IsTrap trap → IsCircuit circuit
+-- after the last line nothing comes
+pub end_sticks : (trap : TrapValue) (circuit : CircuitValue) (placement : List (List Qubit)) (count : ℕ) (steps : List (List Action)) (bytes : List ℕ) → IsTrap trap → IsCircuit circuit
     → IsPlacement trap circuit placement → count < 2 ^ 64 → length steps ≡ count → All (All (IsKnown trap circuit)) steps → 0 < length bytes
     → Sticks trap circuit ((head_text trap circuit placement ++ steps_text (setting_of trap circuit placement) count steps) ++ codes "end\n") bytes
 end_sticks trap circuit placement count steps bytes t c placed few all known some more text =
     let front = head_text trap circuit placement ++ steps_text (setting_of trap circuit placement) count steps in
     let next = next_line trap circuit placement count steps (codes "end\n" ++ more) t c placed few known (subst (IsText trap circuit) (append_assoc front (codes "end\n") more) text) in
-    let one = one_body_line trap circuit placement count steps lines.End next.line more next.behind t c few all next.may next.more_is in
+    let one = one_body_line trap circuit placement count steps lines.End next.line more next.after t c few all next.may next.more_is in
     parted_at_end more bytes (one.1 ∙ next.last (sym one.0)) (λ none. omega (arith, ap length none, some))
 
 -- ---- the steps with one line more
 
-step_more : (setting : Setting) (steps : List (List Action)) → step_lines setting 1 (steps ++ [] ∷ []) ≡ step_lines setting 1 steps ++ line_text setting (length steps + 1) lines.Step
+step_more : (setting : SettingValue) (steps : List (List Action)) → step_lines setting 1 (steps ++ [] ∷ []) ≡ step_lines setting 1 steps ++ line_text setting (length steps + 1) lines.Step
 step_more setting steps =
     let same : 1 + length steps ≡ length steps + 1 = omega arith in
     let head : ℕ → List ℕ = λ n. codes "step " ++ decimal n ++ codes "\n" in
     lines_of setting 1 steps ([] ∷ []) ∙ ap (λ (l : List ℕ). step_lines setting 1 steps ++ l) (append-nil (head (1 + length steps) ++ []) ∙ append-nil (head (1 + length steps)))
     ∙ ap (λ (n : ℕ). step_lines setting 1 steps ++ head n) same
 
-last_more : (setting : Setting) (number : ℕ) (step : List Action) (action : Action) → step_lines setting number ((step ++ action ∷ []) ∷ []) ≡ step_lines setting number (step ∷ []) ++ action_line setting action
+last_more : (setting : SettingValue) (number : ℕ) (step : List Action) (action : Action) → step_lines setting number ((step ++ action ∷ []) ∷ []) ≡ step_lines setting number (step ∷ []) ++ action_line setting action
 last_more setting number step action =
     let head = codes "step " ++ decimal number ++ codes "\n" in
     let line = action_line setting action in
@@ -191,7 +191,7 @@ last_step (step ∷ []) some = record { front = []; step = step; parts = refl }
 last_step (step ∷ second ∷ steps) some =
     let later = last_step (second ∷ steps) (omega arith) in record { front = step ∷ later.front; step = later.step; parts = ap (λ (l : List (List Action)). step ∷ l) later.parts }
 
-action_more : (setting : Setting) (front : List (List Action)) (step : List Action) (action : Action)
+action_more : (setting : SettingValue) (front : List (List Action)) (step : List Action) (action : Action)
     → step_lines setting 1 (front ++ (step ++ action ∷ []) ∷ []) ≡ step_lines setting 1 (front ++ step ∷ []) ++ action_line setting action
 action_more setting front step action =
     let n : ℕ = 1 + length front in
@@ -199,8 +199,8 @@ action_more setting front step action =
     lines_of setting 1 front ((step ++ action ∷ []) ∷ []) ∙ ap (λ (l : List ℕ). before ++ l) (last_more setting n step action)
     ∙ sym (append_assoc before (step_lines setting n (step ∷ [])) (action_line setting action)) ∙ ap (λ (l : List ℕ). l ++ action_line setting action) (sym (lines_of setting 1 front (step ∷ [])))
 
--- steps that were read, so many in all and the bytes behind them
-pub record Read (trap : Lists) (circuit : Parts) (placement : List (List Qubit)) (count : ℕ) (steps : List (List Action)) (rest bytes : List ℕ) : Type 0 where
+-- steps that were read, so many in all and the bytes after them
+pub record Read (trap : TrapValue) (circuit : CircuitValue) (placement : List (List Qubit)) (count : ℕ) (steps : List (List Action)) (rest bytes : List ℕ) : Type 0 where
   pub parts : bytes ≡ (head_text trap circuit placement ++ steps_text (setting_of trap circuit placement) count steps) ++ rest
   pub known : All (All (IsKnown trap circuit)) steps
   pub few : length steps ≤ count
@@ -209,7 +209,7 @@ move_line : (head count steps line rest bytes all : List ℕ) → bytes ≡ (hea
 move_line head count steps line rest bytes all e f = e ∙ rw f (simp append_assoc)
 
 -- one more line was read
-moved : (trap : Lists) (circuit : Parts) (placement : List (List Qubit)) (count : ℕ) (steps more : List (List Action)) (line : BodyLine) (bytes before rest : List ℕ)
+moved : (trap : TrapValue) (circuit : CircuitValue) (placement : List (List Qubit)) (count : ℕ) (steps more : List (List Action)) (line : BodyLine) (bytes before rest : List ℕ)
     → Read trap circuit placement count steps before bytes → before ≡ line_text (setting_of trap circuit placement) (length steps + 1) line ++ rest
     → step_lines (setting_of trap circuit placement) 1 more ≡ step_lines (setting_of trap circuit placement) 1 steps ++ line_text (setting_of trap circuit placement) (length steps + 1) line
     → bytes ≡ (head_text trap circuit placement ++ steps_text (setting_of trap circuit placement) count more) ++ rest
@@ -219,7 +219,7 @@ moved trap circuit placement count steps more line bytes before rest read e f =
     move_line (head_text trap circuit placement) (codes "steps " ++ decimal count ++ codes "\n") (step_lines setting 1 steps) (line_text setting (length steps + 1) line) rest bytes (step_lines setting 1 more)
     (read.parts ∙ ap (λ (l : List ℕ). front ++ l) e) f
 
-pub read_step : (trap : Lists) (circuit : Parts) (placement : List (List Qubit)) (count : ℕ) (steps : List (List Action)) (bytes before rest : List ℕ)
+pub read_step : (trap : TrapValue) (circuit : CircuitValue) (placement : List (List Qubit)) (count : ℕ) (steps : List (List Action)) (bytes before rest : List ℕ)
     → Read trap circuit placement count steps before bytes → before ≡ line_text (setting_of trap circuit placement) (length steps + 1) lines.Step ++ rest → length steps < count
     → Read trap circuit placement count (steps ++ [] ∷ []) rest bytes
 read_step trap circuit placement count steps bytes before rest read e fewer = record {
@@ -233,7 +233,7 @@ all_front P [] last all = (All-nil P, All-head P last [] all)
 all_front P (first ∷ front) last all =
     let later = all_front P front last (All-tail P first (front ++ last ∷ []) all) in (All-cons P first front (All-head P first (front ++ last ∷ []) all) later.0, later.1)
 
-pub read_action : (trap : Lists) (circuit : Parts) (placement : List (List Qubit)) (count : ℕ) (steps more : List (List Action)) (action : Action) (bytes before rest : List ℕ)
+pub read_action : (trap : TrapValue) (circuit : CircuitValue) (placement : List (List Qubit)) (count : ℕ) (steps more : List (List Action)) (action : Action) (bytes before rest : List ℕ)
     → Read trap circuit placement count steps before bytes → before ≡ line_text (setting_of trap circuit placement) (length steps + 1) (lines.Act action) ++ rest
     → 0 < length steps → IsKnown trap circuit action → AddsToLast steps more action → Read trap circuit placement count more rest bytes
 read_action trap circuit placement count steps more action bytes before rest read e some is_known adds =
@@ -258,7 +258,7 @@ read_action trap circuit placement count steps more action bytes before rest rea
 whole_parts : (head zones word number end steps last : List ℕ) → ((head ++ zones) ++ (word ++ number ++ end ++ steps)) ++ last ≡ head ++ zones ++ word ++ number ++ end ++ steps ++ last
 whole_parts head zones word number end steps last = simp append_assoc
 
-pub spelled : (trap : Lists) (circuit : Parts) (placement : List (List Qubit)) (count : ℕ) (steps : List (List Action)) (bytes before : List ℕ) → IsPlacement trap circuit placement → count < 2 ^ 64
+pub spelled : (trap : TrapValue) (circuit : CircuitValue) (placement : List (List Qubit)) (count : ℕ) (steps : List (List Action)) (bytes before : List ℕ) → IsPlacement trap circuit placement → count < 2 ^ 64
     → length steps ≡ count → Read trap circuit placement count steps before bytes → before ≡ codes "end\n" → Spells trap circuit placement steps bytes
 spelled trap circuit placement count steps bytes before placed few all read e =
     let setting = setting_of trap circuit placement in
@@ -273,7 +273,7 @@ spelled trap circuit placement count steps bytes before placed few all read e =
           ∙ ap (λ (n : ℕ). codes "qccd schedule 1\n" ++ zones ++ codes "steps " ++ decimal n ++ codes "\n" ++ step_lines setting 1 steps ++ codes "end\n") (sym all);
     }
 
-pub whole_begins : (trap : Lists) (circuit : Parts) (placement : List (List Qubit)) (count : ℕ) (steps : List (List Action)) → IsPlacement trap circuit placement → count < 2 ^ 64 → length steps ≡ count
+pub whole_begins : (trap : TrapValue) (circuit : CircuitValue) (placement : List (List Qubit)) (count : ℕ) (steps : List (List Action)) → IsPlacement trap circuit placement → count < 2 ^ 64 → length steps ≡ count
     → All (All (IsKnown trap circuit)) steps
     → BeginsText trap circuit ((head_text trap circuit placement ++ steps_text (setting_of trap circuit placement) count steps) ++ codes "end\n")
 whole_begins trap circuit placement count steps placed few all known =
@@ -295,20 +295,20 @@ abbrev pub Blames : List ℕ → List ℕ → TextFault → Type 0
 Blames bytes rest fault = (front : List ℕ) → bytes ≡ front ++ rest → fault ≡ Line (whole_lines front + 1)
 
 -- no line is found
-pub none_found : (trap : Lists) (circuit : Parts) (placement : List (List Qubit)) (count number : ℕ) (steps : List (List Action)) (bytes rest : List ℕ) (fault : TextFault)
+pub none_found : (trap : TrapValue) (circuit : CircuitValue) (placement : List (List Qubit)) (count number : ℕ) (steps : List (List Action)) (bytes rest : List ℕ) (fault : TextFault)
     → IsTrap trap → IsCircuit circuit → IsPlacement trap circuit placement → count < 2 ^ 64 → Read trap circuit placement count steps rest bytes → length steps ≡ number
-    → ((line : BodyLine) (behind : List ℕ) → MayFollow trap circuit count steps line → rest ≡ line_text (setting_of trap circuit placement) (number + 1) line ++ behind → ⊥)
+    → ((line : BodyLine) (after : List ℕ) → MayFollow trap circuit count steps line → rest ≡ line_text (setting_of trap circuit placement) (number + 1) line ++ after → ⊥)
     → Blames bytes rest fault → Refuses trap circuit bytes fault
 none_found trap circuit placement count number steps bytes rest fault t c placed few read at none blames =
     let setting = setting_of trap circuit placement in
     let front = head_text trap circuit placement ++ steps_text setting count steps in
     refused trap circuit front rest bytes fault read.parts (steps_begin trap circuit placement count steps placed few read.few read.known)
     (body_sticks trap circuit placement count steps rest t c placed few read.known
-    (λ line behind may e. none line behind may (e ∙ ap (λ (n : ℕ). line_text setting (n + 1) line ++ behind) at)))
+    (λ line after may e. none line after may (e ∙ ap (λ (n : ℕ). line_text setting (n + 1) line ++ after) at)))
     (blames front read.parts)
 
--- the last line is found, and bytes behind it
-pub more_found : (trap : Lists) (circuit : Parts) (placement : List (List Qubit)) (count number : ℕ) (steps : List (List Action)) (line : BodyLine) (bytes before rest : List ℕ) (fault : TextFault)
+-- the last line is found, and bytes after it
+pub more_found : (trap : TrapValue) (circuit : CircuitValue) (placement : List (List Qubit)) (count number : ℕ) (steps : List (List Action)) (line : BodyLine) (bytes before rest : List ℕ) (fault : TextFault)
     → IsTrap trap → IsCircuit circuit → IsPlacement trap circuit placement → count < 2 ^ 64 → Read trap circuit placement count steps before bytes
     → before ≡ line_text (setting_of trap circuit placement) number line ++ rest → MayFollow trap circuit count steps line → line ≡ lines.End → 0 < length rest
     → Blames bytes rest fault → Refuses trap circuit bytes fault
@@ -322,7 +322,7 @@ more_found trap circuit placement count number steps line bytes before rest faul
     (end_sticks trap circuit placement count steps rest t c placed few all read.known some) (blames (front ++ codes "end\n") parts)
 
 -- a step is found
-pub step_found : (trap : Lists) (circuit : Parts) (placement : List (List Qubit)) (count number : ℕ) (steps more : List (List Action)) (line : BodyLine) (bytes before rest : List ℕ)
+pub step_found : (trap : TrapValue) (circuit : CircuitValue) (placement : List (List Qubit)) (count number : ℕ) (steps more : List (List Action)) (line : BodyLine) (bytes before rest : List ℕ)
     → Read trap circuit placement count steps before bytes → length steps ≡ number → before ≡ line_text (setting_of trap circuit placement) (number + 1) line ++ rest
     → MayFollow trap circuit count steps line → line ≡ lines.Step → more ≡ steps ++ [] ∷ [] → Read trap circuit placement count more rest bytes
 step_found trap circuit placement count number steps more line bytes before rest read at e may is grown =
@@ -333,7 +333,7 @@ step_found trap circuit placement count number steps more line bytes before rest
     (read_step trap circuit placement count steps bytes before rest read same (subst (MayFollow trap circuit count steps) is may))
 
 -- an action is found
-pub action_found : (trap : Lists) (circuit : Parts) (placement : List (List Qubit)) (count number : ℕ) (steps more : List (List Action)) (line : BodyLine) (action : Action) (bytes before rest : List ℕ)
+pub action_found : (trap : TrapValue) (circuit : CircuitValue) (placement : List (List Qubit)) (count number : ℕ) (steps more : List (List Action)) (line : BodyLine) (action : Action) (bytes before rest : List ℕ)
     → Read trap circuit placement count steps before bytes → length steps ≡ number → before ≡ line_text (setting_of trap circuit placement) (number + 1) line ++ rest
     → MayFollow trap circuit count steps line → line ≡ lines.Act action → AddsToLast steps more action → Read trap circuit placement count more rest bytes
 action_found trap circuit placement count number steps more line action bytes before rest read at e may is adds =

@@ -4,7 +4,8 @@ use Rattle.std.specs.Prelude.{◌==◌, All}
 use Rattle.std.proofs.lemmas.Bool.{eq-eqb, ne_eqb, cases_eq, cases_lt}
 use Rattle.std.proofs.lemmas.List.Elements.{All-nil, All-cons, All-head, All-tail, All-append, All-weaker}
 use Rattle.qc_base.specs.declared.ids.Qubit.{Qubit}
-use Rattle.step_rules.specs.Placement.{times, stands}
+use Rattle.circuit_core.specs.Deciding.{stands}
+use Rattle.step_rules.specs.Placement.{times}
 use Rattle.step_rules.proofs.Reading.{times-append, times_none, times_some}
 
 -- how often the qubits below the number stand there together

@@ -1,7 +1,6 @@
 pub mod PlaceLines
 pub mod Names
 pub mod WordEnds
-pub mod Labels
 pub mod Lines
 pub mod LineWords
 pub mod ActionLines
@@ -11,8 +10,10 @@ pub mod Counted
 pub mod Rooms
 pub mod Placing
 pub mod Opening
+pub mod IonWords
 pub mod OpLines
 pub mod BadLines
 pub mod Follows
 pub mod Bodies
 pub mod Accepted
+pub mod TwoNames

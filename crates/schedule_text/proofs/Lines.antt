@@ -1,4 +1,4 @@
--- Lines as words in front of spaces and line ends, and when two of them are one.
+-- Lines as words before spaces and line ends, and when two of them are one.
 use Rattle.std.proofs.Common.{◌≡◌, ◌≢◌, ℕ, suc, ◌&&◌, true, false, List, [], ◌∷◌, ◌++◌, get_or, refl, sym, ◌∙◌, arith, append_assoc}
 use Rattle.std.specs.Prelude.{codes, not, ◌==◌}
 use Rattle.std.specs.List.{list_all}
@@ -21,10 +21,10 @@ free_append sign text more free also = All-append (λ byte. byte ≢ sign) text 
 one_grouped : (first last rest : List ℕ) → ((first ++ 32 ∷ []) ++ last) ++ rest ≡ first ++ 32 ∷ (last ++ rest)
 one_grouped first last rest = simp append_assoc
 
-pub one_word : (first other last behind rest more : List ℕ) → IsFree 32 first → IsFree 32 other → ((first ++ 32 ∷ []) ++ last) ++ rest ≡ ((other ++ 32 ∷ []) ++ behind) ++ more
-    → (first ≡ other) × (last ++ rest ≡ behind ++ more)
-one_word first other last behind rest more free also e =
-    word_before 32 first other (last ++ rest) (behind ++ more) free also (sym (one_grouped first last rest) ∙ e ∙ one_grouped other behind more)
+pub one_word : (first other last after rest more : List ℕ) → IsFree 32 first → IsFree 32 other → ((first ++ 32 ∷ []) ++ last) ++ rest ≡ ((other ++ 32 ∷ []) ++ after) ++ more
+    → (first ≡ other) × (last ++ rest ≡ after ++ more)
+one_word first other last after rest more free also e =
+    word_before 32 first other (last ++ rest) (after ++ more) free also (sym (one_grouped first last rest) ∙ e ∙ one_grouped other after more)
 
 pub last_word : (last other rest more : List ℕ) → IsFree 10 last → IsFree 10 other → (last ++ 10 ∷ []) ++ rest ≡ (other ++ 10 ∷ []) ++ more → (last ≡ other) × (rest ≡ more)
 last_word last other rest more free also e = word_before 10 last other rest more free also (sym (append_assoc last (10 ∷ []) rest) ∙ e ∙ append_assoc other (10 ∷ []) more)
@@ -32,36 +32,36 @@ last_word last other rest more free also e = word_before 10 last other rest more
 two_grouped : (first last rest : List ℕ) → (((first ++ 32 ∷ []) ++ last) ++ 10 ∷ []) ++ rest ≡ ((first ++ 32 ∷ []) ++ (last ++ 10 ∷ [])) ++ rest
 two_grouped first last rest = simp append_assoc
 
-pub two_words : (first other last behind rest more : List ℕ) → IsFree 32 first → IsFree 32 other → IsFree 10 last → IsFree 10 behind
-    → (((first ++ 32 ∷ []) ++ last) ++ 10 ∷ []) ++ rest ≡ (((other ++ 32 ∷ []) ++ behind) ++ 10 ∷ []) ++ more → (first ≡ other) × (last ≡ behind) × (rest ≡ more)
-two_words first other last behind rest more free also ends too e =
-    let front = one_word first other (last ++ 10 ∷ []) (behind ++ 10 ∷ []) rest more free also (sym (two_grouped first last rest) ∙ e ∙ two_grouped other behind more) in
-    let end = last_word last behind rest more ends too front.1 in
+pub two_words : (first other last after rest more : List ℕ) → IsFree 32 first → IsFree 32 other → IsFree 10 last → IsFree 10 after
+    → (((first ++ 32 ∷ []) ++ last) ++ 10 ∷ []) ++ rest ≡ (((other ++ 32 ∷ []) ++ after) ++ 10 ∷ []) ++ more → (first ≡ other) × (last ≡ after) × (rest ≡ more)
+two_words first other last after rest more free also ends too e =
+    let front = one_word first other (last ++ 10 ∷ []) (after ++ 10 ∷ []) rest more free also (sym (two_grouped first last rest) ∙ e ∙ two_grouped other after more) in
+    let end = last_word last after rest more ends too front.1 in
     (front.0, end.0, end.1)
 
 three_grouped : (first middle last rest : List ℕ) → (((((first ++ 32 ∷ []) ++ middle) ++ 32 ∷ []) ++ last) ++ 10 ∷ []) ++ rest ≡ ((first ++ 32 ∷ []) ++ (((middle ++ 32 ∷ []) ++ last) ++ 10 ∷ [])) ++ rest
 three_grouped first middle last rest = simp append_assoc
 
-pub three_words : (first other middle between last behind rest more : List ℕ)
-    → IsFree 32 first → IsFree 32 other → IsFree 32 middle → IsFree 32 between → IsFree 10 last → IsFree 10 behind
-    → (((((first ++ 32 ∷ []) ++ middle) ++ 32 ∷ []) ++ last) ++ 10 ∷ []) ++ rest ≡ (((((other ++ 32 ∷ []) ++ between) ++ 32 ∷ []) ++ behind) ++ 10 ∷ []) ++ more
-    → (first ≡ other) × (middle ≡ between) × (last ≡ behind) × (rest ≡ more)
-three_words first other middle between last behind rest more free also within inside ends too e =
-    let grouped = sym (three_grouped first middle last rest) ∙ e ∙ three_grouped other between behind more in
-    let front = one_word first other (((middle ++ 32 ∷ []) ++ last) ++ 10 ∷ []) (((between ++ 32 ∷ []) ++ behind) ++ 10 ∷ []) rest more free also grouped in
-    let back = two_words middle between last behind rest more within inside ends too front.1 in
+pub three_words : (first other middle between last after rest more : List ℕ)
+    → IsFree 32 first → IsFree 32 other → IsFree 32 middle → IsFree 32 between → IsFree 10 last → IsFree 10 after
+    → (((((first ++ 32 ∷ []) ++ middle) ++ 32 ∷ []) ++ last) ++ 10 ∷ []) ++ rest ≡ (((((other ++ 32 ∷ []) ++ between) ++ 32 ∷ []) ++ after) ++ 10 ∷ []) ++ more
+    → (first ≡ other) × (middle ≡ between) × (last ≡ after) × (rest ≡ more)
+three_words first other middle between last after rest more free also within inside ends too e =
+    let grouped = sym (three_grouped first middle last rest) ∙ e ∙ three_grouped other between after more in
+    let front = one_word first other (((middle ++ 32 ∷ []) ++ last) ++ 10 ∷ []) (((between ++ 32 ∷ []) ++ after) ++ 10 ∷ []) rest more free also grouped in
+    let back = two_words middle between last after rest more within inside ends too front.1 in
     (front.0, back.0, back.1, back.2)
 
 -- the last two words as one part
 pair_grouped : (first middle last rest : List ℕ) → (((first ++ 32 ∷ []) ++ ((middle ++ 32 ∷ []) ++ last)) ++ 10 ∷ []) ++ rest ≡ (((((first ++ 32 ∷ []) ++ middle) ++ 32 ∷ []) ++ last) ++ 10 ∷ []) ++ rest
 pair_grouped first middle last rest = simp append_assoc
 
-pub word_and_two : (first other middle between last behind rest more : List ℕ)
-    → IsFree 32 first → IsFree 32 other → IsFree 32 middle → IsFree 32 between → IsFree 10 last → IsFree 10 behind
-    → (((first ++ 32 ∷ []) ++ ((middle ++ 32 ∷ []) ++ last)) ++ 10 ∷ []) ++ rest ≡ (((other ++ 32 ∷ []) ++ ((between ++ 32 ∷ []) ++ behind)) ++ 10 ∷ []) ++ more
-    → (first ≡ other) × (middle ≡ between) × (last ≡ behind) × (rest ≡ more)
-word_and_two first other middle between last behind rest more free also within inside ends too e =
-    three_words first other middle between last behind rest more free also within inside ends too (sym (pair_grouped first middle last rest) ∙ e ∙ pair_grouped other between behind more)
+pub word_and_two : (first other middle between last after rest more : List ℕ)
+    → IsFree 32 first → IsFree 32 other → IsFree 32 middle → IsFree 32 between → IsFree 10 last → IsFree 10 after
+    → (((first ++ 32 ∷ []) ++ ((middle ++ 32 ∷ []) ++ last)) ++ 10 ∷ []) ++ rest ≡ (((other ++ 32 ∷ []) ++ ((between ++ 32 ∷ []) ++ after)) ++ 10 ∷ []) ++ more
+    → (first ≡ other) × (middle ≡ between) × (last ≡ after) × (rest ≡ more)
+word_and_two first other middle between last after rest more free also within inside ends too e =
+    three_words first other middle between last after rest more free also within inside ends too (sym (pair_grouped first middle last rest) ∙ e ∙ pair_grouped other between after more)
 
 -- the number of an operation's line
 number_grouped : (number ions text rest : List ℕ) → (number ++ codes " ions" ++ ions ++ codes " : " ++ text ++ codes "\n") ++ rest ≡ number ++ 32 ∷ (codes "ions" ++ ions ++ codes " : " ++ text ++ codes "\n" ++ rest)
@@ -73,7 +73,7 @@ number_first number other ions also text words rest more free too e =
     (word_before 32 number other (codes "ions" ++ ions ++ codes " : " ++ text ++ codes "\n" ++ rest) (codes "ions" ++ also ++ codes " : " ++ words ++ codes "\n" ++ more) free too
     (sym (number_grouped number ions text rest) ∙ e ∙ number_grouped other also words more)).0
 
--- ---- words in front of a gap of either kind
+-- ---- words before a gap of either kind
 
 pub gap_before : (sign end : ℕ) (word other rest more : List ℕ) → IsFree end word → IsFree sign other → word ++ sign ∷ rest ≡ other ++ end ∷ more → (word ≡ other) × (sign ∷ rest ≡ end ∷ more)
 gap_before sign end [] [] rest more free also e = (refl, e)

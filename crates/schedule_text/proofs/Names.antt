@@ -13,13 +13,14 @@ use Rattle.qc_base.proofs.Words.{free_decimal}
 use Rattle.trap_model.specs.declared.parts.SegmentPart.{SegmentPart}
 use Rattle.trap_model.specs.declared.parts.ZonePart.{ZonePart}
 use Rattle.trap_model.specs.Names.{is_name, is_word, begins_with_letter}
-use Rattle.trap_model.specs.Trap.{Lists, names_of, place_count, place_text, place_named, junction_named}
+use Rattle.trap_model.specs.Trap.{TrapValue, names_of, place_count, place_text, place_named, junction_named}
 use Rattle.trap_model.specs.Build.{IsTrap}
 use Rattle.trap_model.specs.Joins.{slots_of}
 use Rattle.trap_model.proofs.Rows.{row_of}
 use Rattle.trap_model.proofs.PlaceTexts.{unique, zone_name, segment_name, zone_written_so, slot_written_so}
 use Rattle.schedule_text.specs.Text.{at}
 use Rattle.schedule_text.specs.Progress.{IsGap}
+use Rattle.schedule_text.proofs.Lines.{free_append}
 
 -- ---- words have no gap
 
@@ -35,12 +36,6 @@ words_free sign (byte ∷ bytes) gap w (suc k) d h = words_free sign bytes gap (
 pub name_free : (name : List ℕ) (sign : ℕ) → IsGap sign → is_name name ≡ true → IsFree sign name
 name_free name sign gap n = words_free sign name gap (and_parts (begins_with_letter name && leb (length name) 16) (list_all is_word name) n).1
 
--- texts that have no sign have none together
-pub free_both : (sign : ℕ) (first second : List ℕ) → IsFree sign first → IsFree sign second → IsFree sign (first ++ second)
-free_both sign [] second free also k d h = also k d h
-free_both sign (byte ∷ first) second free also zero d h = free 0 d (omega arith)
-free_both sign (byte ∷ first) second free also (suc k) d h = free_both sign first second (λ j e below. free (suc j) e (omega arith)) also k d (omega arith)
-
 -- a gap is no digit's sign
 pub gap_is_sign : (sign : ℕ) → IsGap sign → (sign < 48) ⊎ (57 < sign)
 gap_is_sign sign (inl space) = inl (omega (arith, space))
@@ -50,7 +45,7 @@ dot_free : (sign : ℕ) → IsGap sign → IsFree sign (46 ∷ [])
 dot_free sign gap zero d h e = elim gap [ inl space ↦ absurd (omega (arith, space, e)) | inr feed ↦ absurd (omega (arith, feed, e)) ]
 dot_free sign gap (suc k) d h e = absurd (omega arith)
 
-names_count : (trap : Lists) → length (names_of trap) ≡ length trap.zones + length trap.segments + length trap.junctions
+names_count : (trap : TrapValue) → length (names_of trap) ≡ length trap.zones + length trap.segments + length trap.junctions
 names_count trap =
     let zones = map (λ (z : ZonePart). z.name) trap.zones in
     let segments = map (λ (s : SegmentPart). s.name) trap.segments in
@@ -58,17 +53,17 @@ names_count trap =
 
 -- ---- places
 
-pub zone_free : (trap : Lists) (zone : ℕ) (part : ZonePart) (sign : ℕ) → IsTrap trap → zone < length trap.zones → slice_get trap.zones zone ≡ Some part → IsGap sign → IsFree sign part.name
+pub zone_free : (trap : TrapValue) (zone : ℕ) (part : ZonePart) (sign : ℕ) → IsTrap trap → zone < length trap.zones → slice_get trap.zones zone ≡ Some part → IsGap sign → IsFree sign part.name
 zone_free trap zone part sign t h is gap =
     let at = zone_name trap zone part [] h is in
     name_free part.name sign gap (rw at at (t.words zone [] (omega (arith, names_count trap))))
 
-segment_free : (trap : Lists) (segment : ℕ) (part : SegmentPart) (sign : ℕ) → IsTrap trap → segment < length trap.segments → slice_get trap.segments segment ≡ Some part → IsGap sign → IsFree sign part.name
+segment_free : (trap : TrapValue) (segment : ℕ) (part : SegmentPart) (sign : ℕ) → IsTrap trap → segment < length trap.segments → slice_get trap.segments segment ≡ Some part → IsGap sign → IsFree sign part.name
 segment_free trap segment part sign t h is gap =
     let at = segment_name trap segment part [] h is in
     name_free part.name sign gap (rw at at (t.words (length trap.zones + segment) [] (omega (arith, names_count trap))))
 
-pub place_free : (trap : Lists) (place sign : ℕ) → IsTrap trap → place < place_count trap → IsGap sign → IsFree sign (place_text trap place)
+pub place_free : (trap : TrapValue) (place sign : ℕ) → IsTrap trap → place < place_count trap → IsGap sign → IsFree sign (place_text trap place)
 place_free trap place sign t h gap =
     elim (cases_lt place (length trap.zones)) [
       | inl front ↦
@@ -79,7 +74,7 @@ place_free trap place sign t h gap =
           let few : slots_of trap w.segment ≤ 16 = (row_of trap w.segment t w.there).few in
           let small : w.index < 2 ^ 64 = omega (arith, few, w.below) in
           let number = free_decimal sign w.index (gap_is_sign sign gap) small in
-          rw w.text (free_both sign w.part.name (46 ∷ decimal w.index) (segment_free trap w.segment w.part sign t w.there w.is gap) (free_both sign (46 ∷ []) (decimal w.index) (dot_free sign gap) number))
+          rw w.text (free_append sign w.part.name (46 ∷ decimal w.index) (segment_free trap w.segment w.part sign t w.there w.is gap) (free_append sign (46 ∷ []) (decimal w.index) (dot_free sign gap) number))
     ]
 
 find_true : (test : ℕ → Bool) (k first n : ℕ) → find test (range_with_len first n) ≡ Some k → (k < first + n) × (test k ≡ true)
@@ -94,7 +89,7 @@ find_true test k first (suc n) e =
           (omega (arith, rest.0), rest.1)
     ]
 
-pub place_there : (trap : Lists) (text : List ℕ) (place : ℕ) → place_named trap text ≡ Some place → (place < place_count trap) × (place_text trap place ≡ text)
+pub place_there : (trap : TrapValue) (text : List ℕ) (place : ℕ) → place_named trap text ≡ Some place → (place < place_count trap) × (place_text trap place ≡ text)
 place_there trap text place e =
     let found = find_true (λ place. bytes_eq (place_text trap place) text) place 0 (place_count trap) e in
     (omega (arith, found.0), (bytes_eq-Decides (place_text trap place) text).0 found.1)
@@ -102,24 +97,24 @@ place_there trap text place e =
 -- ---- junctions
 
 -- a junction's name, as it is written
-abbrev pub junction_text : Lists → ℕ → List ℕ
+abbrev pub junction_text : TrapValue → ℕ → List ℕ
 junction_text trap junction = at (λ (name : List ℕ). name) trap.junctions junction
 
-junction_text_is : (trap : Lists) (junction : ℕ) → junction_text trap junction ≡ get_or trap.junctions junction []
+junction_text_is : (trap : TrapValue) (junction : ℕ) → junction_text trap junction ≡ get_or trap.junctions junction []
 junction_text_is trap junction =
     elim (slice_get_cases trap.junctions junction).1 [
       | inl there ↦ ap (λ o. option_map_or (λ (name : List ℕ). name) o []) there.2 ∙ sym (get_or_from_slice_get trap.junctions junction there.0 [] there.2)
       | inr past ↦ ap (λ o. option_map_or (λ (name : List ℕ). name) o []) past.1 ∙ sym (get_or_past trap.junctions junction [] past.0)
     ]
 
-junction_name : (trap : Lists) (junction : ℕ) → get_or (names_of trap) (length trap.zones + length trap.segments + junction) [] ≡ get_or trap.junctions junction []
+junction_name : (trap : TrapValue) (junction : ℕ) → get_or (names_of trap) (length trap.zones + length trap.segments + junction) [] ≡ get_or trap.junctions junction []
 junction_name trap junction =
     let zones = map (λ (z : ZonePart). z.name) trap.zones in
     let segments = map (λ (s : SegmentPart). s.name) trap.segments in
     let count : length trap.zones + length trap.segments ≡ length (zones ++ segments) = omega (arith, length-append zones segments, length-map trap.zones (λ (z : ZonePart). z.name), length-map trap.segments (λ (s : SegmentPart). s.name)) in
     rw count (get_or-append-add (zones ++ segments) trap.junctions junction [])
 
-pub junction_free : (trap : Lists) (junction sign : ℕ) → IsTrap trap → junction < length trap.junctions → IsGap sign → IsFree sign (junction_text trap junction)
+pub junction_free : (trap : TrapValue) (junction sign : ℕ) → IsTrap trap → junction < length trap.junctions → IsGap sign → IsFree sign (junction_text trap junction)
 junction_free trap junction sign t h gap =
     let is = junction_name trap junction in
     rw (junction_text_is trap junction) (name_free (get_or trap.junctions junction []) sign gap (rw is at (t.words (length trap.zones + length trap.segments + junction) [] (omega (arith, names_count trap)))))
@@ -137,7 +132,7 @@ named_there text first (name ∷ names) k e =
           (suc rest.0, omega (arith, rest.1), omega (arith, rest.2), rest.3)
     ]
 
-pub junction_there : (trap : Lists) (text : List ℕ) (junction : ℕ) → junction_named trap text ≡ Some junction → (junction < length trap.junctions) × (junction_text trap junction ≡ text)
+pub junction_there : (trap : TrapValue) (text : List ℕ) (junction : ℕ) → junction_named trap text ≡ Some junction → (junction < length trap.junctions) × (junction_text trap junction ≡ text)
 junction_there trap text junction e =
     let found = named_there text 0 trap.junctions junction e in
     let same : found.0 ≡ junction = omega (arith, found.1) in
@@ -155,14 +150,14 @@ first_named text first (name ∷ names) (suc k) at e h is before =
     let not = false_from_ne_true (p name) (λ same. before 0 (omega arith) ((bytes_eq-Decides name text).0 same)) in
     cond-false (p name) (Some first) (position_from p (first + 1) names) not ∙ first_named text (first + 1) names k at (omega (arith, e)) (omega arith) is (λ j below. before (suc j) (omega arith))
 
-pub junction_one : (trap : Lists) (a b : ℕ) → IsTrap trap → a < length trap.junctions → b < length trap.junctions → junction_text trap a ≡ junction_text trap b → a ≡ b
+pub junction_one : (trap : TrapValue) (a b : ℕ) → IsTrap trap → a < length trap.junctions → b < length trap.junctions → junction_text trap a ≡ junction_text trap b → a ≡ b
 junction_one trap a b t ha hb e =
     let n = length trap.zones + length trap.segments in
     let same = junction_name trap a ∙ sym (junction_text_is trap a) ∙ e ∙ junction_text_is trap b ∙ sym (junction_name trap b) in
     let one = unique (names_of trap) (n + a) (n + b) [] t.names (omega (arith, names_count trap)) (omega (arith, names_count trap)) same in
     omega (arith, one)
 
-pub junction_is : (trap : Lists) (text : List ℕ) (junction : ℕ) → IsTrap trap → junction < length trap.junctions → junction_text trap junction ≡ text → junction_named trap text ≡ Some junction
+pub junction_is : (trap : TrapValue) (text : List ℕ) (junction : ℕ) → IsTrap trap → junction < length trap.junctions → junction_text trap junction ≡ text → junction_named trap text ≡ Some junction
 junction_is trap text junction t h e =
     first_named text 0 trap.junctions junction junction (omega arith) h (sym (junction_text_is trap junction) ∙ e)
     (λ j below same. let one = junction_one trap j junction t (omega arith) h (junction_text_is trap j ∙ same ∙ sym e) in absurd (omega (arith, one)))

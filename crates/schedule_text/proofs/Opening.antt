@@ -5,11 +5,12 @@ use Rattle.std.proofs.lemmas.Bool.{eq-eqb, ne_eqb, cases_eq, leb-true, le-leb, f
 use Rattle.std.proofs.lemmas.List.{drop_more, take_more, take-append-drop, length-drop, take_all}
 use Rattle.std.proofs.lemmas.List.Elements.{All-drop, All-head, All-tail}
 use Rattle.qc_base.specs.declared.ids.Qubit.{Qubit}
-use Rattle.circuit_core.specs.Circuit.{Parts, qubit_count}
+use Rattle.circuit_core.specs.Circuit.{CircuitValue, qubit_count}
 use Rattle.trap_model.specs.declared.parts.ZonePart.{ZonePart}
-use Rattle.trap_model.specs.Trap.{Lists}
+use Rattle.trap_model.specs.Trap.{TrapValue}
 use Rattle.trap_model.specs.Build.{IsTrap}
-use Rattle.step_rules.specs.Placement.{reading_order, times, stands}
+use Rattle.circuit_core.specs.Deciding.{stands}
+use Rattle.step_rules.specs.Placement.{reading_order, times}
 use Rattle.step_rules.proofs.Reading.{times-append, times_none, times_some, flags_grown}
 use Rattle.step_rules.proofs.Placements.{grown}
 use Rattle.schedule_text.specs.Progress.{Opens, capacity}
@@ -86,17 +87,17 @@ marked_up_to marks lists k list h read are =
 abbrev AreApart : List ZonePart → List (List Qubit) → Type 0
 AreApart zones lists = AreIn zones lists × AreOnce (reading_order lists)
 
-pub not_apart : (trap : Lists) (circuit : Parts) (lists : List (List Qubit)) (zones : List ZonePart) (apart : Bool) → zones ≡ trap.zones → IsTrue apart ↔ AreApart zones lists → apart ≡ false → IsTrue false ↔ Opens trap circuit lists
+pub not_apart : (trap : TrapValue) (circuit : CircuitValue) (lists : List (List Qubit)) (zones : List ZonePart) (apart : Bool) → zones ≡ trap.zones → IsTrue apart ↔ AreApart zones lists → apart ≡ false → IsTrue false ↔ Opens trap circuit lists
 not_apart trap circuit lists zones apart same says e =
     let refused : Opens trap circuit lists → IsTrue false =
     λ opened. sym e ∙ says.1 (subst (λ (l : List ZonePart). AreApart l lists) (sym same) (zones_in trap lists opened.zones opened.room, opened.once)) in
     (λ no. absurd (false≢true no), refused)
 
-pub are_apart : (trap : Lists) (lists : List (List Qubit)) (zones : List ZonePart) (apart : Bool) → zones ≡ trap.zones → IsTrue apart ↔ AreApart zones lists → apart ≡ true → AreApart trap.zones lists
+pub are_apart : (trap : TrapValue) (lists : List (List Qubit)) (zones : List ZonePart) (apart : Bool) → zones ≡ trap.zones → IsTrue apart ↔ AreApart zones lists → apart ≡ true → AreApart trap.zones lists
 are_apart trap lists zones apart same says e = subst (λ (l : List ZonePart). AreApart l lists) same (says.0 e)
 
 -- the room of the zones without lists
-pub room_left : (trap : Lists) (lists : List (List Qubit)) (zones : List ZonePart) → zones ≡ trap.zones → capacity (take (length zones - length lists) (drop (length lists) zones)) ≡ capacity (drop (length lists) trap.zones)
+pub room_left : (trap : TrapValue) (lists : List (List Qubit)) (zones : List ZonePart) → zones ≡ trap.zones → capacity (take (length zones - length lists) (drop (length lists) zones)) ≡ capacity (drop (length lists) trap.zones)
 room_left trap lists zones same =
     ap capacity (take_all (length zones - length lists) (drop (length lists) zones) (omega (arith, length-drop (length lists) zones)))
     ∙ ap (λ (l : List ZonePart). capacity (drop (length lists) l)) same
@@ -107,15 +108,15 @@ few_ions (zone ∷ zones) all =
     let P : ZonePart → Type 0 = λ z. (1 ≤ z.capacity) × (z.capacity ≤ 32) in
     omega (arith, (All-head P zone zones all).1, few_ions zones (All-tail P zone zones all))
 
-pub small_room : (trap : Lists) (k : ℕ) → IsTrap trap → capacity (drop k trap.zones) ≤ 1024
+pub small_room : (trap : TrapValue) (k : ℕ) → IsTrap trap → capacity (drop k trap.zones) ≤ 1024
 small_room trap k sound =
     let P : ZonePart → Type 0 = λ z. (1 ≤ z.capacity) × (z.capacity ≤ 32) in
     omega (arith, few_ions (drop k trap.zones) (All-drop P k trap.zones sound.capacities), length-drop k trap.zones, sound.zones)
 
-pub small_order : (trap : Lists) (lists : List (List Qubit)) → IsTrap trap → AreApart trap.zones lists → length (reading_order lists) ≤ 1024
+pub small_order : (trap : TrapValue) (lists : List (List Qubit)) → IsTrap trap → AreApart trap.zones lists → length (reading_order lists) ≤ 1024
 small_order trap lists sound apart = omega (arith, in_capacity trap.zones lists apart.0, small_room trap 0 sound)
 
-pub apart_opens : (trap : Lists) (circuit : Parts) (lists : List (List Qubit)) (count room standing : ℕ) → length lists ≤ length trap.zones → All (λ (qubit : Qubit). qubit.0 < qubit_count circuit) (reading_order lists) → AreApart trap.zones lists
+pub apart_opens : (trap : TrapValue) (circuit : CircuitValue) (lists : List (List Qubit)) (count room standing : ℕ) → length lists ≤ length trap.zones → All (λ (qubit : Qubit). qubit.0 < qubit_count circuit) (reading_order lists) → AreApart trap.zones lists
     → count ≡ qubit_count circuit → standing ≡ length (reading_order lists) → room ≡ capacity (drop (length lists) trap.zones) → IsTrue (nat_le count (standing + room)) ↔ Opens trap circuit lists
 apart_opens trap circuit lists count room standing few qubits apart all there is = (
   λ enough. record {

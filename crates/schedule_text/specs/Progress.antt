@@ -2,12 +2,12 @@
 use Rattle.std.specs.Prelude.{◌≡◌, ℕ, ◌+◌, ◌<◌, ◌≤◌, ◌⊎◌, List, [], ◌∷◌, ◌++◌, length, drop, All, slice_get, Some, codes, decimal}
 use Rattle.qc_base.specs.declared.ids.Qubit.{Qubit}
 use Rattle.qc_base.specs.Spelling.{IsFree}
-use Rattle.circuit_core.specs.Circuit.{Parts, qubit_count}
+use Rattle.circuit_core.specs.Circuit.{CircuitValue, qubit_count}
 use Rattle.trap_model.specs.declared.parts.ZonePart.{ZonePart}
-use Rattle.trap_model.specs.Trap.{Lists, limit_of}
+use Rattle.trap_model.specs.Trap.{TrapValue, limit_of}
 use Rattle.step_rules.specs.declared.action.Action.{Action}
 use Rattle.step_rules.specs.Placement.{reading_order, times}
-use Rattle.step_rules.specs.Setting.{Setting}
+use Rattle.step_rules.specs.Setting.{SettingValue}
 use Rattle.schedule_text.specs.Text.{place_lines, action_line, step_lines}
 use Rattle.schedule_text.specs.Reading.{IsKnown, IsText}
 use Rattle.schedule_text.specs.declared.body_line.BodyLine.{BodyLine}
@@ -23,7 +23,7 @@ capacity [] = 0
 capacity (zone ∷ zones) = zone.capacity + capacity zones
 
 -- the lists of the first zones, where they can be completed to a placement
-pub record Opens (trap : Lists) (circuit : Parts) (lists : List (List Qubit)) : Type 0 where
+pub record Opens (trap : TrapValue) (circuit : CircuitValue) (lists : List (List Qubit)) : Type 0 where
   pub zones : length lists ≤ length trap.zones
   pub qubits : All (λ (qubit : Qubit). qubit.0 < qubit_count circuit) (reading_order lists)
   pub once : (k : ℕ) → times k (reading_order lists) ≤ 1
@@ -31,21 +31,25 @@ pub record Opens (trap : Lists) (circuit : Parts) (lists : List (List Qubit)) : 
   pub left : qubit_count circuit ≤ length (reading_order lists) + capacity (drop (length lists) trap.zones)
 
 -- the first line, and the lines of the first zones
-abbrev pub head_text : Lists → Parts → List (List Qubit) → List ℕ
+abbrev pub head_text : TrapValue → CircuitValue → List (List Qubit) → List ℕ
 head_text trap circuit lists = codes "qccd schedule 1\n" ++ place_lines circuit trap.zones lists
 
 -- the line that counts the steps, and then some of them
-abbrev pub steps_text : Setting → ℕ → List (List Action) → List ℕ
+abbrev pub steps_text : SettingValue → ℕ → List (List Action) → List ℕ
 steps_text setting count steps = codes "steps " ++ decimal count ++ codes "\n" ++ step_lines setting 1 steps
 
+-- the head, and the line that counts the steps
+abbrev pub opened_text : SettingValue → ℕ → List ℕ
+opened_text setting count = head_text setting.trap setting.circuit setting.placement ++ steps_text setting count []
+
 -- the line of a body, where a step that begins has this number
-abbrev pub line_text : Setting → ℕ → BodyLine → List ℕ
+abbrev pub line_text : SettingValue → ℕ → BodyLine → List ℕ
 line_text setting number Step = codes "step " ++ decimal number ++ codes "\n"
 line_text setting number (Act action) = action_line setting action
 line_text setting number End = codes "end\n"
 
 -- it may come after these steps, of so many in all
-abbrev pub MayFollow : Lists → Parts → ℕ → List (List Action) → BodyLine → Type 0
+abbrev pub MayFollow : TrapValue → CircuitValue → ℕ → List (List Action) → BodyLine → Type 0
 MayFollow trap circuit count steps Step = length steps < count
 MayFollow trap circuit count steps (Act action) = (0 < length steps) × IsKnown trap circuit action
 MayFollow trap circuit count steps End = length steps ≡ count
@@ -59,8 +63,8 @@ pub record IsLine (line : List ℕ) : Type 0 where
 -- the bytes are not the same, and have no first line in common
 pub record ArePartedAtOnce (more rest : List ℕ) : Type 0 where
   pub other : more ≡ rest → ⊥
-  pub line : (line more_behind rest_behind : List ℕ) → IsLine line → more ≡ line ++ more_behind → rest ≡ line ++ rest_behind → ⊥
+  pub line : (line more_after rest_after : List ℕ) → IsLine line → more ≡ line ++ more_after → rest ≡ line ++ rest_after → ⊥
 
--- no text goes on behind the front as the rest does
-abbrev pub Sticks : Lists → Parts → List ℕ → List ℕ → Type 0
+-- no text goes on after the front as the rest does
+abbrev pub Sticks : TrapValue → CircuitValue → List ℕ → List ℕ → Type 0
 Sticks trap circuit front rest = (more : List ℕ) → IsText trap circuit (front ++ more) → ArePartedAtOnce more rest

@@ -6,20 +6,18 @@ ghost use Rattle.circuit_core.specs.Circuit.{IsCircuit};
 ghost use Rattle.trap_model.specs.Trap.{place_count, place_text};
 ghost use Rattle.trap_model.specs.Build.{IsTrap};
 ghost use Rattle.step_rules.specs.declared.action.Action.{Action as AnAction};
-ghost use Rattle.step_rules.specs.Setting.{setting_of};
 ghost use Rattle.schedule_text.specs.Text.{zone_end, two_places, split_line, move_line, cross_line, merge_line, swap_line, performed_line, action_line};
 ghost use Rattle.schedule_text.specs.Reading.{IsKnown};
 ghost use Rattle.schedule_text.specs.Progress.{IsGap};
 
 use crate::printer::push_op_line;
 use crate::words::{end_until, junction_until, place_until};
-use circuit_core::Circuit;
-use qc_base::{End, JunctionId, NoMemory, OpId, PlaceId, behind, small_number_until};
+use qc_base::{End, JunctionId, NoMemory, OpId, PlaceId, small_number_until, strip_prefix};
 use std::alloc::Global;
-use step_rules::{Action, Placement};
+use step_rules::{Action, Setting};
 use trap_model::Trap;
 
-// A zone and one of its ends in front of the sign, a space or a line end, and what stands behind the sign.
+// A zone and one of its ends before the sign, a space or a line end, and what comes after the sign.
 fn zone_end_until<'a>(trap: &Trap, bytes: &'a [u8], sign: u8) -> Option<((PlaceId, End), &'a [u8])>
     requires trap { IsTrap trap.now }
     requires gap { IsGap sign }
@@ -33,7 +31,7 @@ fn zone_end_until<'a>(trap: &Trap, bytes: &'a [u8], sign: u8) -> Option<((PlaceI
     Some(((zone, end), rest))
 }
 
-// Two places in front of a line end, and what stands behind it.
+// Two places before a line end, and what comes after it.
 fn two_places_line<'a>(trap: &Trap, bytes: &'a [u8]) -> Option<((PlaceId, PlaceId), &'a [u8])>
     requires { IsTrap trap.now }
     ensures found { IfSome result (λ x. bytes.now ≡ two_places trap.now x.0.0.0 x.0.1.0 ++ 10 ∷ x.1.now) }
@@ -54,7 +52,7 @@ fn read_split<'a>(trap: &Trap, bytes: &'a [u8]) -> Option<((PlaceId, End, u32), 
         → bytes.now ≡ split_line trap.now zone end count ++ rest
         → IsSomeAnd result (λ x. (x.0.0.0 ≡ zone) × (x.0.1 ≡ end) × (x.0.2 ≡ count) × (x.1.now ≡ rest)) }
 {
-    let words = behind(bytes, b"split ")?;
+    let words = strip_prefix(bytes, b"split ")?;
     let ((zone, end), number) = zone_end_until(trap, words, b' ')?;
     let (count, rest) = small_number_until(number, b'\n')?;
     Some(((zone, end, count), rest))
@@ -68,7 +66,7 @@ fn read_move<'a>(trap: &Trap, bytes: &'a [u8]) -> Option<((PlaceId, PlaceId), &'
         → bytes.now ≡ move_line trap.now from to ++ rest
         → IsSomeAnd result (λ x. (x.0.0.0 ≡ from) × (x.0.1.0 ≡ to) × (x.1.now ≡ rest)) }
 {
-    let places = behind(bytes, b"move ")?;
+    let places = strip_prefix(bytes, b"move ")?;
     two_places_line(trap, places)
 }
 
@@ -83,7 +81,7 @@ fn read_cross<'a>(
         → bytes.now ≡ cross_line trap.now junction from to ++ rest
         → IsSomeAnd result (λ x. (x.0.0.0 ≡ junction) × (x.0.1.0 ≡ from) × (x.0.2.0 ≡ to) × (x.1.now ≡ rest)) }
 {
-    let words = behind(bytes, b"cross ")?;
+    let words = strip_prefix(bytes, b"cross ")?;
     let (junction, places) = junction_until(trap, words, b' ')?;
     let ((from, to), rest) = two_places_line(trap, places)?;
     Some(((junction, from, to), rest))
@@ -97,7 +95,7 @@ fn read_merge<'a>(trap: &Trap, bytes: &'a [u8]) -> Option<((PlaceId, End), &'a [
         → bytes.now ≡ merge_line trap.now zone end ++ rest
         → IsSomeAnd result (λ x. (x.0.0.0 ≡ zone) × (x.0.1 ≡ end) × (x.1.now ≡ rest)) }
 {
-    let words = behind(bytes, b"merge ")?;
+    let words = strip_prefix(bytes, b"merge ")?;
     zone_end_until(trap, words, b'\n')
 }
 
@@ -109,7 +107,7 @@ fn read_swap<'a>(trap: &Trap, bytes: &'a [u8]) -> Option<((PlaceId, u32), &'a [u
         → bytes.now ≡ swap_line trap.now zone index ++ rest
         → IsSomeAnd result (λ x. (x.0.0.0 ≡ zone) × (x.0.1 ≡ index) × (x.1.now ≡ rest)) }
 {
-    let words = behind(bytes, b"swap ")?;
+    let words = strip_prefix(bytes, b"swap ")?;
     let (zone, number) = place_until(trap, words, b' ')?;
     let (index, rest) = small_number_until(number, b'\n')?;
     Some(((zone, index), rest))
@@ -124,7 +122,7 @@ fn numbered<'a>(trap: &Trap, bytes: &'a [u8]) -> Option<((PlaceId, u32), &'a [u8
         → bytes.now ≡ codes "op " ++ place_text trap.now zone ++ codes " " ++ line → line ≡ decimal number ++ 32 ∷ more
         → IsSomeAnd result (λ x. (x.0.0.0 ≡ zone) × (x.0.1 ≡ number) × (x.1.now ≡ line)) }
 {
-    let words = behind(bytes, b"op ")?;
+    let words = strip_prefix(bytes, b"op ")?;
     let (zone, line) = place_until(trap, words, b' ')?;
     let (number, _) = small_number_until(line, b' ')?;
     Some(((zone, number), line))
@@ -132,49 +130,52 @@ fn numbered<'a>(trap: &Trap, bytes: &'a [u8]) -> Option<((PlaceId, u32), &'a [u8
 
 fn read_op<'a>(
     alloc: Global,
-    trap: &Trap,
-    circuit: &Circuit,
-    placement: &Placement,
+    setting: &Setting,
     bytes: &'a [u8],
 ) -> Result<Option<((PlaceId, OpId), &'a [u8])>, NoMemory>
-    requires trap { IsTrap trap.now }
-    requires circuit { IsCircuit circuit.now }
-    ensures found { IfOk result (λ o. IfSome o (λ x. bytes.now ≡ performed_line (setting_of trap.now circuit.now placement.now) x.0.0.0 x.0.1.0 ++ x.1.now)) }
-    ensures there { IfOk result (λ o. IfSome o (λ x. (x.0.0.0 < place_count trap.now) × (x.0.1.0 < length circuit.now.ops))) }
-    ensures only { IfOk result (λ o. (zone op : ℕ) (rest : List ℕ) → zone < place_count trap.now → op < length circuit.now.ops
-        → bytes.now ≡ performed_line (setting_of trap.now circuit.now placement.now) zone op ++ rest
+    requires trap { IsTrap setting.now.trap }
+    requires circuit { IsCircuit setting.now.circuit }
+    ensures found { IfOk result (λ o. IfSome o (λ x. bytes.now ≡ performed_line setting.now x.0.0.0 x.0.1.0 ++ x.1.now)) }
+    ensures there { IfOk result (λ o. IfSome o (λ x. (x.0.0.0 < place_count setting.now.trap) × (x.0.1.0 < length setting.now.circuit.ops))) }
+    ensures only { IfOk result (λ o. (zone op : ℕ) (rest : List ℕ) → zone < place_count setting.now.trap → op < length setting.now.circuit.ops
+        → bytes.now ≡ performed_line setting.now zone op ++ rest
         → IsSomeAnd o (λ x. (x.0.0.0 ≡ zone) × (x.0.1.0 ≡ op) × (x.1.now ≡ rest))) }
 {
-    let Some(((zone, number), line)) = numbered(trap, bytes) else {
+    let Some(((zone, number), line)) = numbered(setting.trap, bytes) else {
         return Ok(None);
     };
     let op = OpId(number);
-    let Some(operation) = circuit.op(op) else {
+    let Some(operation) = setting.circuit.op(op) else {
         return Ok(None);
     };
     let mut text = Vec::new(alloc);
-    push_op_line(&mut text, circuit, placement, number, operation)?;
-    match behind(line, text.as_slice()) {
+    push_op_line(
+        &mut text,
+        setting.circuit,
+        setting.placement,
+        number,
+        operation,
+    )?;
+    match strip_prefix(line, text.as_slice()) {
         Some(rest) => Ok(Some(((zone, op), rest))),
         None => Ok(None),
     }
 }
 
-/// The action, where the bytes begin with its line, and what stands behind the line.
+/// The action, where the bytes begin with its line, and what comes after the line.
 pub fn read_action<'a>(
     alloc: Global,
-    trap: &Trap,
-    circuit: &Circuit,
-    placement: &Placement,
+    setting: &Setting,
     bytes: &'a [u8],
 ) -> Result<Option<(Action, &'a [u8])>, NoMemory>
-    requires trap { IsTrap trap.now }
-    requires circuit { IsCircuit circuit.now }
-    ensures found { IfOk result (λ o. IfSome o (λ x. bytes.now ≡ action_line (setting_of trap.now circuit.now placement.now) x.0 ++ x.1.now)) }
-    ensures known { IfOk result (λ o. IfSome o (λ x. IsKnown trap.now circuit.now x.0)) }
-    ensures only { IfOk result (λ o. (action : AnAction) (rest : List ℕ) → IsKnown trap.now circuit.now action
-        → bytes.now ≡ action_line (setting_of trap.now circuit.now placement.now) action ++ rest → IsSomeAnd o (λ x. (x.0 ≡ action) × (x.1.now ≡ rest))) }
+    requires trap { IsTrap setting.now.trap }
+    requires circuit { IsCircuit setting.now.circuit }
+    ensures found { IfOk result (λ o. IfSome o (λ x. bytes.now ≡ action_line setting.now x.0 ++ x.1.now)) }
+    ensures known { IfOk result (λ o. IfSome o (λ x. IsKnown setting.now.trap setting.now.circuit x.0)) }
+    ensures only { IfOk result (λ o. (action : AnAction) (rest : List ℕ) → IsKnown setting.now.trap setting.now.circuit action
+        → bytes.now ≡ action_line setting.now action ++ rest → IsSomeAnd o (λ x. (x.0 ≡ action) × (x.1.now ≡ rest))) }
 {
+    let trap = setting.trap;
     if let Some(((zone, end, count), rest)) = read_split(trap, bytes) {
         return Ok(Some((Action::Split { zone, end, count }, rest)));
     }
@@ -190,7 +191,7 @@ pub fn read_action<'a>(
     if let Some(((zone, index), rest)) = read_swap(trap, bytes) {
         return Ok(Some((Action::Swap { zone, index }, rest)));
     }
-    match read_op(alloc, trap, circuit, placement, bytes)? {
+    match read_op(alloc, setting, bytes)? {
         Some(((zone, op), rest)) => Ok(Some((Action::Op { zone, op }, rest))),
         None => Ok(None),
     }

@@ -8,10 +8,9 @@ ghost use Rattle.step_rules.specs.Placement.{reading_order};
 ghost use Rattle.schedule_text.specs.Progress.{capacity, Opens};
 ghost use Rattle.schedule_text.specs.Standing.{AreOnce, AreMarked, AreIn};
 
-use circuit_core::Circuit;
+use circuit_core::{Circuit, Qubits};
 use qc_base::{NoMemory, Qubit};
 use std::alloc::Global;
-use step_rules::Qubits;
 use trap_model::{Trap, ZonePart};
 
 // How many ions the zones hold together.

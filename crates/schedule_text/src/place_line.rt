@@ -4,25 +4,23 @@ ghost use Rattle.std.specs.Prelude.{◌≡◌, ℕ, ◌<◌, ◌≤◌, ◌++◌
 ghost use Rattle.qc_base.specs.declared.ids.Qubit.{Qubit as AQubit};
 ghost use Rattle.qc_base.specs.Spelling.{IsFree};
 ghost use Rattle.circuit_core.specs.Circuit.{IsCircuit, qubit_count};
-ghost use Rattle.schedule_text.specs.Text.{place_line};
-ghost use Rattle.schedule_text.specs.Words.{labels_text};
+ghost use Rattle.schedule_text.specs.Text.{labels_text, place_line};
 
-use crate::words::label_behind;
-use circuit_core::Circuit;
-use qc_base::{NoMemory, Qubit, behind, word_until};
+use crate::words::label_after;
+use circuit_core::{Circuit, Qubits};
+use qc_base::{NoMemory, Qubit, split_once, strip_prefix};
 use std::alloc::Global;
-use step_rules::Qubits;
 use trap_model::ZonePart;
 
-// What stands behind the zone's name in its line, and what stands behind the line.
+// What comes after the zone's name in its line, and what comes after the line.
 fn words_of<'a>(zone: &ZonePart, bytes: &'a [u8]) -> Option<(&'a [u8], &'a [u8])>
     ensures found { IfSome result (λ x. bytes.now ≡ codes "place " ++ zone.now.name ++ x.0.now ++ codes "\n" ++ x.1.now) }
     ensures only { (words rest : List ℕ) → IsFree 10 words → bytes.now ≡ codes "place " ++ zone.now.name ++ words ++ codes "\n" ++ rest
         → IsSomeAnd result (λ x. (x.0.now ≡ words) × (x.1.now ≡ rest)) }
 {
-    let line = behind(bytes, b"place ")?;
-    let words = behind(line, zone.name.bytes())?;
-    word_until(words, b'\n')
+    let line = strip_prefix(bytes, b"place ")?;
+    let words = strip_prefix(line, zone.name.bytes())?;
+    split_once(words, b'\n')
 }
 
 // The qubits that these labels are, where there are no more than fit. A line may be as long as the file, and each label
@@ -45,7 +43,7 @@ fn labels(
         if list.len() >= capacity as usize {
             return Ok(None);
         }
-        match label_behind(circuit, rest) {
+        match label_after(circuit, rest) {
             Some((qubit, after)) => {
                 list.push(qubit)?;
                 rest = after;
@@ -56,7 +54,7 @@ fn labels(
     Ok(Some(list))
 }
 
-/// The qubits of the zone, where the bytes begin with its line and the zone has room for them, and what stands behind the
+/// The qubits of the zone, where the bytes begin with its line and the zone has room for them, and what comes after the
 /// line.
 pub fn read_place_line<'a>(
     alloc: Global,

@@ -1,61 +1,17 @@
 //! The text of a schedule.
 
-ghost use Rattle.std.specs.Prelude.{◌≡◌, ℕ, ◌+◌, ◌<◌, drop, length, ◌++◌, ◌∷◌, [], List, OnOk, IfOk, decimal, codes};
+ghost use Rattle.std.specs.Prelude.{◌≡◌, ◌+◌, ◌<◌, drop, length, ◌++◌, OnOk, IfOk};
 ghost use Rattle.std.specs.List.{flat_map};
-ghost use Rattle.circuit_core.specs.Label.{label};
-ghost use Rattle.step_rules.specs.Setting.{setting_of, qubits_of};
-ghost use Rattle.schedule_text.specs.Text.{at, op_text, place_line, place_lines, op_line, end_text, zone_end, two_places, split_line, move_line, cross_line, merge_line, swap_line, performed_line, action_line, step_lines, schedule_text, ion_words};
+ghost use Rattle.circuit_core.specs.Op.{HasSmallAngles};
+ghost use Rattle.step_rules.specs.Setting.{setting_of};
+ghost use Rattle.schedule_text.specs.Text.{at, labels_text, place_line, place_lines, ion_words, op_line, end_text, zone_end, two_places};
+ghost use Rattle.schedule_text.specs.Text.{split_line, move_line, cross_line, merge_line, swap_line, performed_line, action_line, step_lines, schedule_text};
 
-use circuit_core::{Circuit, Op};
-use itoa::Buffer;
-use qc_base::{End, JunctionId, NoMemory, OpId, PlaceId, Qubit};
+use circuit_core::{Circuit, Op, Qubits, push_label, push_op};
+use qc_base::{End, JunctionId, NoMemory, OpId, PlaceId, Qubit, push_number};
 use std::alloc::Global;
-use step_rules::{Action, Placement, Qubits, Schedule, Step};
+use step_rules::{Action, Placement, Schedule, Setting, Step};
 use trap_model::{Trap, ZonePart};
-
-fn push_number(out: &mut Vec<u8>, number: u64) -> Result<(), NoMemory>
-    ensures { OnOk result (out.new.items ≡ out.old.items ++ decimal number) }
-{
-    let mut buffer = Buffer::new();
-    out.extend_from_slice(buffer.format(number).as_bytes())?;
-    Ok(())
-}
-
-fn push_label(out: &mut Vec<u8>, circuit: &Circuit, qubit: Qubit) -> Result<(), NoMemory>
-    ensures { OnOk result (out.new.items ≡ out.old.items ++ label circuit.now qubit) }
-{
-    let mut index = qubit.0;
-    for reg in circuit.qregs() {
-        if index < reg.size {
-            out.extend_from_slice(reg.name.bytes())?;
-            out.extend_from_slice(b"[")?;
-            push_number(out, index as u64)?;
-            out.extend_from_slice(b"]")?;
-            return Ok(());
-        }
-        index -= reg.size;
-    }
-    Ok(())
-}
-
-fn push_op(out: &mut Vec<u8>, circuit: &Circuit, op: &Op) -> Result<(), NoMemory>
-    ensures { OnOk result (out.new.items ≡ out.old.items ++ op_text circuit.now op.now) }
-{
-    match op {
-        Op::Cx {
-            control,
-            target,
-            ..
-        } => {
-            out.extend_from_slice(b"CX ")?;
-            push_label(out, circuit, *control)?;
-            out.extend_from_slice(b",")?;
-            push_label(out, circuit, *target)?;
-            out.extend_from_slice(b";")?;
-        }
-    }
-    Ok(())
-}
 
 fn push_place(
     out: &mut Vec<u8>,
@@ -73,11 +29,11 @@ fn push_place(
 }
 
 fn push_labels(out: &mut Vec<u8>, circuit: &Circuit, list: &[Qubit]) -> Result<(), NoMemory>
-    ensures { OnOk result (out.new.items ≡ out.old.items ++ flat_map (λ qubit. codes " " ++ label circuit.now qubit) list.now) }
+    ensures { OnOk result (out.new.items ≡ out.old.items ++ labels_text circuit.now list.now) }
 {
     for qubit in list {
         out.extend_from_slice(b" ")?;
-        push_label(out, circuit, *qubit)?;
+        push_label(out, circuit.qregs(), qubit.0)?;
     }
     Ok(())
 }
@@ -129,17 +85,9 @@ fn push_places(
 fn push_ions(out: &mut Vec<u8>, placement: &Placement, op: &Op) -> Result<(), NoMemory>
     ensures { OnOk result (out.new.items ≡ out.old.items ++ ion_words placement.now op.now) }
 {
-    match op {
-        Op::Cx {
-            control,
-            target,
-            ..
-        } => {
-            out.extend_from_slice(b" ")?;
-            push_number(out, placement.ion_of(*control).0 as u64)?;
-            out.extend_from_slice(b" ")?;
-            push_number(out, placement.ion_of(*target).0 as u64)?;
-        }
+    for index in 0..op.width() {
+        out.extend_from_slice(b" ")?;
+        push_number(out, placement.ion_of(op.qubit(index)).0 as u64)?;
     }
     Ok(())
 }
@@ -152,6 +100,7 @@ pub(crate) fn push_op_line(
     number: u32,
     op: &Op,
 ) -> Result<(), NoMemory>
+    requires { HasSmallAngles op.now }
     ensures { OnOk result (out.new.items ≡ out.old.items ++ op_line circuit.now placement.now number op.now) }
 {
     push_number(out, number as u64)?;
@@ -268,71 +217,52 @@ fn push_merge(out: &mut Vec<u8>, trap: &Trap, zone: PlaceId, end: End) -> Result
 
 fn push_performed(
     out: &mut Vec<u8>,
-    trap: &Trap,
-    circuit: &Circuit,
-    placement: &Placement,
+    setting: &Setting,
     zone: PlaceId,
     op: OpId,
 ) -> Result<(), NoMemory>
-    ensures { OnOk result (out.new.items ≡ out.old.items ++ performed_line (setting_of trap.now circuit.now placement.now) zone.0 op.0) }
+    ensures { OnOk result (out.new.items ≡ out.old.items ++ performed_line setting.now zone.0 op.0) }
 {
     out.extend_from_slice(b"op ")?;
-    trap.print_place(zone, out)?;
+    setting.trap.print_place(zone, out)?;
     out.extend_from_slice(b" ")?;
-    if let Some(operation) = circuit.op(op) {
-        push_op_line(out, circuit, placement, op.0, operation)?;
+    if let Some(operation) = setting.circuit.op(op) {
+        push_op_line(out, setting.circuit, setting.placement, op.0, operation)?;
     }
     Ok(())
 }
 
-fn push_action(
-    out: &mut Vec<u8>,
-    trap: &Trap,
-    circuit: &Circuit,
-    placement: &Placement,
-    action: &Action,
-) -> Result<(), NoMemory>
-    ensures { OnOk result (out.new.items ≡ out.old.items ++ action_line (setting_of trap.now circuit.now placement.now) action.now) }
+fn push_action(out: &mut Vec<u8>, setting: &Setting, action: &Action) -> Result<(), NoMemory>
+    ensures { OnOk result (out.new.items ≡ out.old.items ++ action_line setting.now action.now) }
 {
+    let trap = setting.trap;
     match *action {
         Action::Split { zone, end, count } => push_split(out, trap, zone, end, count),
         Action::Move { from, to } => push_move(out, trap, from, to),
         Action::Cross { junction, from, to } => push_cross(out, trap, junction, from, to),
         Action::Merge { zone, end } => push_merge(out, trap, zone, end),
         Action::Swap { zone, index } => push_swap(out, trap, zone, index),
-        Action::Op { zone, op } => push_performed(out, trap, circuit, placement, zone, op),
+        Action::Op { zone, op } => push_performed(out, setting, zone, op),
     }
 }
 
-fn push_step(
-    out: &mut Vec<u8>,
-    trap: &Trap,
-    circuit: &Circuit,
-    placement: &Placement,
-    actions: &[Action],
-) -> Result<(), NoMemory>
-    ensures { OnOk result (out.new.items ≡ out.old.items ++ flat_map (action_line (setting_of trap.now circuit.now placement.now)) actions.now) }
+fn push_step(out: &mut Vec<u8>, setting: &Setting, actions: &[Action]) -> Result<(), NoMemory>
+    ensures { OnOk result (out.new.items ≡ out.old.items ++ flat_map (action_line setting.now) actions.now) }
 {
     for action in actions {
-        push_action(out, trap, circuit, placement, action)?;
+        push_action(out, setting, action)?;
     }
     Ok(())
 }
 
-fn push_steps(
-    out: &mut Vec<u8>,
-    trap: &Trap,
-    circuit: &Circuit,
-    placement: &Placement,
-    steps: &[Step],
-) -> Result<(), NoMemory>
-    ensures { OnOk result (out.new.items ≡ out.old.items ++ step_lines (setting_of trap.now circuit.now placement.now) 1 steps.now) }
+fn push_steps(out: &mut Vec<u8>, setting: &Setting, steps: &[Step]) -> Result<(), NoMemory>
+    ensures { OnOk result (out.new.items ≡ out.old.items ++ step_lines setting.now 1 steps.now) }
 {
     for (k, step) in steps.iter().enumerate() {
         out.extend_from_slice(b"step ")?;
         push_number(out, k as u64 + 1)?;
         out.extend_from_slice(b"\n")?;
-        push_step(out, trap, circuit, placement, step.actions())?;
+        push_step(out, setting, step.actions())?;
     }
     Ok(())
 }
@@ -347,13 +277,19 @@ pub fn print(
 ) -> Result<Vec<u8>, NoMemory>
     ensures { IfOk result (λ text. text.items ≡ schedule_text (setting_of trap.now circuit.now placement.now) schedule.now) }
 {
+    let setting = Setting {
+        trap,
+        circuit,
+        placement,
+    };
+    let steps = schedule.steps();
     let mut out = Vec::new(alloc);
     out.extend_from_slice(b"qccd schedule 1\n")?;
     push_places(&mut out, circuit, trap, placement)?;
     out.extend_from_slice(b"steps ")?;
-    push_number(&mut out, schedule.steps().len() as u64)?;
+    push_number(&mut out, steps.len() as u64)?;
     out.extend_from_slice(b"\n")?;
-    push_steps(&mut out, trap, circuit, placement, schedule.steps())?;
+    push_steps(&mut out, &setting, steps)?;
     out.extend_from_slice(b"end\n")?;
     Ok(out)
 }

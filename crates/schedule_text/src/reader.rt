@@ -1,14 +1,13 @@
 //! Reading the text of a schedule.
 
-ghost use Rattle.std.specs.Prelude.{◌≡◌, ℕ, ◌+◌, ◌<◌, ◌≤◌, ◌^◌, ◌++◌, [], List, length, slice_get, Some, IfSome, IfOk, IfErr, MatchOption, codes};
+ghost use Rattle.std.specs.Prelude.{◌≡◌, ℕ, ◌+◌, ◌*◌, ◌<◌, ◌≤◌, ◌++◌, List, length, slice_get, Some, IfSome, IfOk, IfErr, MatchOption, codes};
 ghost use Rattle.qc_base.specs.declared.ids.Qubit.{Qubit as AQubit};
 ghost use Rattle.circuit_core.specs.Circuit.{IsCircuit, qubit_count};
 ghost use Rattle.trap_model.specs.Build.{IsTrap};
 ghost use Rattle.step_rules.specs.declared.action.Action.{Action as AnAction};
 ghost use Rattle.step_rules.specs.Placement.{IsPlacement};
-ghost use Rattle.step_rules.specs.Setting.{setting_of};
 ghost use Rattle.schedule_text.specs.Reading.{Spells, Refuses, whole_lines};
-ghost use Rattle.schedule_text.specs.Progress.{Opens, head_text, steps_text, capacity, Sticks};
+ghost use Rattle.schedule_text.specs.Progress.{Opens, head_text, opened_text, capacity, Sticks};
 ghost use Rattle.schedule_text.specs.declared.text_fault.TextFault.TheVariants.{Line};
 
 use crate::body_line::{BodyLine, read_body_line};
@@ -16,10 +15,10 @@ use crate::open::{fits, is_open};
 use crate::place_line::read_place_line;
 use crate::text_fault::TextFault;
 use crate::words::read_count;
-use circuit_core::Circuit;
-use qc_base::{NoMemory, behind};
+use circuit_core::{Circuit, Qubits};
+use qc_base::{NoMemory, strip_prefix};
 use std::alloc::Global;
-use step_rules::{GivenFault, Placement, Qubits, Schedule};
+use step_rules::{GivenFault, Placement, Schedule, Setting};
 use trap_model::{Trap, ZonePart};
 
 // How many lines end in the bytes.
@@ -47,7 +46,7 @@ fn bad_line(bytes: &[u8], rest: &[u8]) -> TextFault
     }
 }
 
-// Adds the list of the next zone, where its line comes next and the list can stand there, and answers what stands behind.
+// Adds the list of the next zone, where its line comes next and the list can stand there, and answers what comes after.
 fn read_list<'a>(
     alloc: Global,
     trap: &Trap,
@@ -77,7 +76,7 @@ fn read_list<'a>(
     }
 }
 
-// The lists of all zones, and what stands behind their lines.
+// The lists of all zones, and what comes after their lines.
 fn read_places<'a>(
     alloc: Global,
     trap: &Trap,
@@ -126,28 +125,35 @@ fn placed(
     }
 }
 
-// The steps, behind which the last line stands and nothing more.
+// As many steps as the count says, but no more than the lines can hold: the line of a step has at least seven bytes.
+fn steps_at_most(count: u64, lines: &[u8]) -> usize
+    ensures counted { result ≤ count }
+    ensures held { result * 7 ≤ length lines.now }
+{
+    count.min(lines.len() as u64 / 7) as usize
+}
+
+// The steps, after which the last line comes and nothing more.
 fn read_body(
     alloc: Global,
-    trap: &Trap,
-    circuit: &Circuit,
-    placement: &Placement,
+    setting: &Setting,
     count: u64,
     bytes: &[u8],
     lines: &[u8],
 ) -> Result<Schedule, TextFault>
-    requires trap { IsTrap trap.now }
-    requires circuit { IsCircuit circuit.now }
-    requires placed { IsPlacement trap.now circuit.now placement.now }
-    requires parts { bytes.now ≡ (head_text trap.now circuit.now placement.now ++ steps_text (setting_of trap.now circuit.now placement.now) count []) ++ lines.now }
-    ensures found { IfOk result (λ schedule. Spells trap.now circuit.now placement.now schedule bytes.now) }
-    ensures fault { IfErr result (Refuses trap.now circuit.now bytes.now) }
+    requires trap { IsTrap setting.now.trap }
+    requires circuit { IsCircuit setting.now.circuit }
+    requires placed { IsPlacement setting.now.trap setting.now.circuit setting.now.placement }
+    requires parts { bytes.now ≡ opened_text setting.now count ++ lines.now }
+    ensures found { IfOk result (λ schedule. Spells setting.now.trap setting.now.circuit setting.now.placement schedule bytes.now) }
+    ensures fault { IfErr result (Refuses setting.now.trap setting.now.circuit bytes.now) }
 {
     let mut schedule = Schedule::new(alloc);
+    schedule.reserve(steps_at_most(count, lines))?;
     let mut rest = lines;
     loop {
         let steps = schedule.steps().len() as u64;
-        let found = read_body_line(alloc, trap, circuit, placement, steps, count, rest)?;
+        let found = read_body_line(alloc, setting, steps, count, rest)?;
         let Some((line, after)) = found else {
             return Err(bad_line(bytes, rest));
         };
@@ -179,7 +185,7 @@ pub fn read(
     if !fits(trap, circuit) {
         return Err(TextFault::Line { number: 1 });
     }
-    let Some(lines) = behind(bytes, b"qccd schedule 1\n") else {
+    let Some(lines) = strip_prefix(bytes, b"qccd schedule 1\n") else {
         return Err(TextFault::Line { number: 1 });
     };
     let (lists, counted) = read_places(alloc, trap, circuit, bytes, lines)?;
@@ -187,6 +193,11 @@ pub fn read(
     let Some((count, body)) = read_count(counted) else {
         return Err(bad_line(bytes, counted));
     };
-    let schedule = read_body(alloc, trap, circuit, &placement, count, bytes, body)?;
+    let setting = Setting {
+        trap,
+        circuit,
+        placement: &placement,
+    };
+    let schedule = read_body(alloc, &setting, count, bytes, body)?;
     Ok((placement, schedule))
 }

@@ -1,16 +1,18 @@
 //! A text with every kind of line, and the first bad lines of others.
 
-ghost use Rattle.std.specs.Prelude.{◌≤◌, ◌<◌, IsTrue, All, IfOk};
+ghost use Rattle.std.specs.Prelude.{◌≡◌, ◌≤◌, ◌<◌, ◌∷◌, [], length, IsTrue, All, IfOk};
+ghost use Rattle.circuit_core.specs.Circuit.{all_nodes};
+ghost use Rattle.circuit_core.specs.Op.{IsOp};
 ghost use Rattle.trap_model.specs.Names.{is_name};
 ghost use Rattle.trap_model.specs.Build.{AreNames};
 
 use crate::{TextFault, print, read};
-use circuit_core::{Circuit, Op, Reg};
-use qc_base::{End, JunctionId, Name, NoMemory, OpId, PlaceId, Qubit};
+use circuit_core::{Angle, Angles, Circuit, Cond, Op, Qubits, Reg};
+use qc_base::{Bit, CregId, End, JunctionId, Name, NoMemory, OpId, PlaceId, Qubit};
 use std::alloc::Global;
 use std::process::Abort;
 use std::test::Fail;
-use step_rules::{Action, GivenFault, Placement, Qubits, Schedule};
+use step_rules::{Action, GivenFault, Placement, Schedule};
 use trap_model::{EndName, JoinPart, SegmentPart, Trap, TrapParts, ZonePart};
 
 fn zone(alloc: Global, name: &[u8]) -> Result<ZonePart, NoMemory>
@@ -118,6 +120,90 @@ fn circuit_of(alloc: Global, qubits: u32) -> Result<Circuit, NoMemory>
     let mut qregs = Vec::new(alloc);
     qregs.push(Reg { name, size: qubits })?;
     Ok(Circuit::new(qregs, Vec::new(alloc), ops))
+}
+
+const IF_THREE: Option<Cond> = Some(Cond {
+    creg: CregId(0),
+    value: 3,
+});
+
+/// The gate U, and a gate that is known by its name alone.
+fn gates(alloc: Global) -> Result<(Op, Op), NoMemory>
+    ensures { IfOk result (λ ops. IsOp 3 2 1 ops.0 × IsOp 3 2 1 ops.1 × (all_nodes (ops.0 ∷ ops.1 ∷ []) ≤ 4)) }
+{
+    let rotation = Op::U {
+        theta: Angle::Pi,
+        phi: Angle::Int(0),
+        lambda: Angle::Int(4),
+        qubit: Qubit(0),
+        cond: None,
+    };
+    let mut params = Vec::new(alloc);
+    params.push(Angle::Int(2))?;
+    let opaque = Op::Opaque {
+        name: Name::from_bytes(alloc, b"g")?,
+        params: Angles::from_vec(params),
+        first: Qubit(0),
+        second: Some(Qubit(2)),
+        cond: IF_THREE,
+    };
+    Ok((rotation, opaque))
+}
+
+/// The operations that have no angles.
+fn plain_ops(alloc: Global) -> Result<(Op, Op, Op, Op), NoMemory>
+    ensures ops { IfOk result (λ ops. IsOp 3 2 1 ops.0 × IsOp 3 2 1 ops.1 × IsOp 3 2 1 ops.2 × IsOp 3 2 1 ops.3) }
+    ensures nodes { IfOk result (λ ops. all_nodes (ops.0 ∷ ops.1 ∷ ops.2 ∷ ops.3 ∷ []) ≡ 0) }
+{
+    let cx = Op::Cx {
+        control: Qubit(0),
+        target: Qubit(1),
+        cond: IF_THREE,
+    };
+    let measure = Op::Measure {
+        qubit: Qubit(1),
+        bit: Bit(1),
+        cond: IF_THREE,
+    };
+    let reset = Op::Reset {
+        qubit: Qubit(2),
+        cond: None,
+    };
+    let mut qubits = Vec::new(alloc);
+    qubits.push(Qubit(0))?;
+    qubits.push(Qubit(2))?;
+    let barrier = Op::Barrier {
+        qubits: Qubits::from_vec(qubits),
+    };
+    Ok((cx, measure, reset, barrier))
+}
+
+/// An operation of each kind, some with a condition.
+fn ops_of_all_kinds(alloc: Global) -> Result<Vec<Op>, NoMemory>
+    ensures ops { IfOk result (λ ops. All (IsOp 3 2 1) ops.items) }
+    ensures few { IfOk result (λ ops. length ops.items ≤ 6) }
+    ensures nodes { IfOk result (λ ops. all_nodes ops.items ≤ 4) }
+{
+    let (rotation, opaque) = gates(alloc)?;
+    let (cx, measure, reset, barrier) = plain_ops(alloc)?;
+    let ops = Vec::from_array(alloc, [rotation, opaque, cx, measure, reset, barrier])?;
+    Ok(ops)
+}
+
+#[tactic(auto, using(crate::proofs::TwoNames::two_names))]
+fn circuit_of_all_kinds(alloc: Global) -> Result<Circuit, NoMemory> {
+    let ops = ops_of_all_kinds(alloc)?;
+    let mut qregs = Vec::new(alloc);
+    qregs.push(Reg {
+        name: Name::from_bytes(alloc, b"q")?,
+        size: 3,
+    })?;
+    let mut cregs = Vec::new(alloc);
+    cregs.push(Reg {
+        name: Name::from_bytes(alloc, b"c")?,
+        size: 2,
+    })?;
+    Ok(Circuit::new(qregs, cregs, ops))
 }
 
 fn are_below(qubits: &[Qubit], count: u32) -> bool
@@ -270,6 +356,43 @@ fn every_kind_of_line_is_printed_and_read(rt: HostRuntime) -> Result<(), Fail> {
     assert!(rt; printed.as_slice() == text.as_slice());
     let (placement, schedule) = read(alloc, &trap, &circuit, &text)?;
     assert!(rt; is_placed(&placement, (&IN_A, &IN_B)));
+    assert!(rt; has_steps(&schedule, &steps));
+    Ok(())
+}
+
+fn op_in_a(op: u32) -> Action {
+    Action::Op {
+        zone: PlaceId(0),
+        op: OpId(op),
+    }
+}
+
+const ALL_KINDS_TEXT: &[u8] = b"qccd schedule 1
+place A q[2] q[0]
+place B q[1]
+steps 1
+step 1
+op A 0 ions 1 : U(pi,0,4) q[0];
+op A 1 ions 1 0 : if(c==3) g(2) q[0],q[2];
+op A 2 ions 1 2 : if(c==3) CX q[0],q[1];
+op A 3 ions 2 : if(c==3) measure q[1] -> c[1];
+op A 4 ions 0 : reset q[2];
+op A 5 ions 1 0 : barrier q[0],q[2];
+end
+";
+
+#[test]
+fn operations_of_all_kinds_are_printed_and_read(rt: HostRuntime) -> Result<(), Fail> {
+    let alloc = rt.alloc();
+    let trap = trap_of(alloc)?;
+    let circuit = circuit_of_all_kinds(alloc)?;
+    let placement = place(&rt, alloc, &trap, &circuit, (&IN_A, &IN_B))?;
+    let actions = [0, 1, 2, 3, 4, 5].map(op_in_a);
+    let steps: [&[Action]; 1] = [&actions];
+    let schedule = schedule_of(&rt, alloc, &steps)?;
+    let printed = print(alloc, &trap, &circuit, &placement, &schedule)?;
+    assert!(rt; printed.as_slice() == ALL_KINDS_TEXT);
+    let (_, schedule) = read(alloc, &trap, &circuit, &printed)?;
     assert!(rt; has_steps(&schedule, &steps));
     Ok(())
 }

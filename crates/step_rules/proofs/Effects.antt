@@ -10,7 +10,7 @@ use Rattle.qc_base.specs.declared.ids.Ion.{Ion}
 use Rattle.qc_base.specs.declared.ids.End.{End}
 use Rattle.qc_base.specs.declared.ids.End.TheVariants.{A, B}
 use Rattle.trap_model.specs.declared.channel.Kind.TheVariants.{Move}
-use Rattle.trap_model.specs.Trap.{Lists, slot_at}
+use Rattle.trap_model.specs.Trap.{TrapValue, slot_at}
 use Rattle.trap_model.specs.Joins.{joined_slot, arms_of}
 use Rattle.trap_model.specs.Channels.{channel as channel_of, same_segment, split, merge, cross, split_channel, merge_channel, move_channel, cross_channel, arm_of}
 use Rattle.trap_model.specs.declared.channel.Channel.{Channel}
@@ -21,7 +21,7 @@ use Rattle.ion_chain.specs.Transfer.{list_at, after_transfer}
 use Rattle.ion_chain.proofs.Transfers.{list_at-after_transfer, after_transfer-after_transfer}
 use Rattle.step_rules.specs.declared.action.Action.{Action}
 use Rattle.step_rules.specs.declared.action.Action.TheVariants as actions
-use Rattle.step_rules.specs.Way.{channel_for, passing, transfer}
+use Rattle.step_rules.specs.ActionChannel.{channel_for, passing, transfer}
 use Rattle.step_rules.specs.Steps.{Spot, place, junction, footprint, AreApart, after, after_passing, after_step}
 use Rattle.step_rules.proofs.Orders.{any_order}
 
@@ -79,23 +79,23 @@ cross_inside crossed None to channel e = absurd cc
 cross_inside crossed (Some out) None channel e = absurd cc
 cross_inside crossed (Some out) (Some into) channel e = (out, into, refl, refl, same_Some (cross crossed out into) channel e)
 
-unless_same : (b : Bool) (way : Option Channel) (channel : Channel) → cond b None way ≡ Some channel → way ≡ Some channel
-unless_same true way channel e = absurd cc
-unless_same false way channel e = e
+unless_same : (b : Bool) (found : Option Channel) (channel : Channel) → cond b None found ≡ Some channel → found ≡ Some channel
+unless_same true found channel e = absurd cc
+unless_same false found channel e = e
 
-arm_is : (trap : Lists) (crossed slot : ℕ) (arm : SlotEnd) → arm_of trap crossed slot ≡ Some arm → slot ≡ arm.slot
+arm_is : (trap : TrapValue) (crossed slot : ℕ) (arm : SlotEnd) → arm_of trap crossed slot ≡ Some arm → slot ≡ arm.slot
 arm_is trap crossed slot arm e = eqb-true slot arm.slot (found (λ (a : SlotEnd). slot == a.slot) (arms_of trap crossed) arm e)
 
-pub crossing_ends : (trap : Lists) (crossed from to : ℕ) (channel : Channel) → cross_channel trap crossed from to ≡ Some channel → (from ≡ channel.from.0) × (to ≡ channel.to.0)
+pub crossing_ends : (trap : TrapValue) (crossed from to : ℕ) (channel : Channel) → cross_channel trap crossed from to ≡ Some channel → (from ≡ channel.from.0) × (to ≡ channel.to.0)
 crossing_ends trap crossed from to channel e =
     let it = cross_inside crossed (arm_of trap crossed from) (arm_of trap crossed to) channel (unless_same (from == to) _ channel e) in
     (arm_is trap crossed from it.0 it.2 ∙ ap (λ (c : Channel). c.from.0) it.4, arm_is trap crossed to it.1 it.3 ∙ ap (λ (c : Channel). c.to.0) it.4)
 
-pub moving_ends : (trap : Lists) (from to : ℕ) (channel : Channel) → move_channel trap from to ≡ Some channel → (from ≡ channel.from.0) × (to ≡ channel.to.0)
+pub moving_ends : (trap : TrapValue) (from to : ℕ) (channel : Channel) → move_channel trap from to ≡ Some channel → (from ≡ channel.from.0) × (to ≡ channel.to.0)
 moving_ends trap from to channel e =
     picked (same_segment (slot_at trap from) (slot_at trap to)) (to == from + 1) (from == to + 1) (channel_of Move from B to A None) (channel_of Move from A to B None) channel from to refl refl refl refl e
 
-pub inside : (trap : Lists) (action : Action) (channel : Channel) → channel_for trap action ≡ Some channel → Inside (footprint trap action) channel
+pub inside : (trap : TrapValue) (action : Action) (channel : Channel) → channel_for trap action ≡ Some channel → Inside (footprint trap action) channel
 inside trap (actions.Split zone end count) channel e = split_inside zone.0 end (joined_slot trap zone.0 end) channel e
 inside trap (actions.Move from to) channel e = let ends = moving_ends trap from.0 to.0 channel e in between from.0 to.0 [] channel ends.0 ends.1
 inside trap (actions.Cross crossed from to) channel e = let ends = crossing_ends trap crossed.0 from.0 to.0 channel e in between from.0 to.0 (junction crossed.0 ∷ []) channel ends.0 ends.1
@@ -105,17 +105,17 @@ inside trap (actions.Op zone op) channel e = absurd cc
 
 -- ---- three sorts of effect
 
-data Effect (trap : Lists) (action : Action) : Type 0 where
+data Effect (trap : TrapValue) (action : Action) : Type 0 where
   passes : (channel : Channel) → Inside (footprint trap action) channel → ((config : List (List Ion)) → after trap config action ≡ after_passing config action channel) → Effect trap action
   swaps : (zone index : ℕ) → Contains (footprint trap action) (place zone) → ((config : List (List Ion)) → after trap config action ≡ slice_set config zone (swap (list_at config zone) index (index + 1))) → Effect trap action
   stays : ((config : List (List Ion)) → after trap config action ≡ config) → Effect trap action
 
-through : (trap : Lists) (action : Action) (way : Option Channel) → ((channel : Channel) → way ≡ Some channel → Inside (footprint trap action) channel)
-    → ((config : List (List Ion)) → after trap config action ≡ option_map_or (after_passing config action) way config) → Effect trap action
+through : (trap : TrapValue) (action : Action) (found : Option Channel) → ((channel : Channel) → found ≡ Some channel → Inside (footprint trap action) channel)
+    → ((config : List (List Ion)) → after trap config action ≡ option_map_or (after_passing config action) found config) → Effect trap action
 through trap action None within is = stays is
 through trap action (Some channel) within is = passes channel (within channel refl) is
 
-effect : (trap : Lists) (action : Action) → Effect trap action
+effect : (trap : TrapValue) (action : Action) → Effect trap action
 effect trap (actions.Split zone end count) = through trap (actions.Split zone end count) (split_channel trap zone.0 end) (inside trap (actions.Split zone end count)) (λ config. refl)
 effect trap (actions.Move from to) = through trap (actions.Move from to) (move_channel trap from.0 to.0) (inside trap (actions.Move from to)) (λ config. refl)
 effect trap (actions.Cross crossed from to) = through trap (actions.Cross crossed from to) (cross_channel trap crossed.0 from.0 to.0) (inside trap (actions.Cross crossed from to)) (λ config. refl)
@@ -125,7 +125,7 @@ effect trap (actions.Op zone op) = stays (λ config. refl)
 
 -- ---- each sort with each
 
-differ : (trap : Lists) (a b : Action) → AreApart trap a b → (p q : ℕ) → Contains (footprint trap a) (place p) → Contains (footprint trap b) (place q) → p ≢ q
+differ : (trap : TrapValue) (a b : Action) → AreApart trap a b → (p q : ℕ) → Contains (footprint trap a) (place p) → Contains (footprint trap b) (place q) → p ≢ q
 differ trap a b apart p q in_a in_b e = apart (place p) in_a (subst (λ (r : ℕ). Contains (footprint trap b) (place r)) (sym e) in_b)
 
 passes_passes : (config : List (List Ion)) (a b : Action) (c d : Channel) → c.from.0 ≢ d.from.0 → c.to.0 ≢ d.to.0 → c.from.0 ≢ d.to.0 → c.to.0 ≢ d.from.0
@@ -165,14 +165,14 @@ swaps_swaps config y i z j apart =
     rw (seen_z, seen_y) (set_comm config y z s t apart)
 
 -- the effects of a and b, one after the other
-both : (trap : Lists) (config : List (List Ion)) (a b : Action) (f g : List (List Ion) → List (List Ion)) → ((c : List (List Ion)) → after trap c a ≡ f c) → ((c : List (List Ion)) → after trap c b ≡ g c)
+both : (trap : TrapValue) (config : List (List Ion)) (a b : Action) (f g : List (List Ion) → List (List Ion)) → ((c : List (List Ion)) → after trap c a ≡ f c) → ((c : List (List Ion)) → after trap c b ≡ g c)
     → g (f config) ≡ f (g config) → after trap (after trap config a) b ≡ after trap (after trap config b) a
 both trap config a b f g is_a is_b same = is_b (after trap config a) ∙ ap g (is_a config) ∙ same ∙ sym (is_a (after trap config b) ∙ ap f (is_b config))
 
 abbrev swapping : ℕ → ℕ → List (List Ion) → List (List Ion)
 swapping zone index config = slice_set config zone (swap (list_at config zone) index (index + 1))
 
-commute : (trap : Lists) (a b : Action) → AreApart trap a b → Effect trap a → Effect trap b → (config : List (List Ion)) → after trap (after trap config a) b ≡ after trap (after trap config b) a
+commute : (trap : TrapValue) (a b : Action) → AreApart trap a b → Effect trap a → Effect trap b → (config : List (List Ion)) → after trap (after trap config a) b ≡ after trap (after trap config b) a
 commute trap a b apart (stays is_a) (stays is_b) config = both trap config a b (λ c. c) (λ c. c) is_a is_b refl
 commute trap a b apart (stays is_a) (swaps z j in_b is_b) config = both trap config a b (λ c. c) (swapping z j) is_a is_b refl
 commute trap a b apart (stays is_a) (passes d in_b is_b) config = both trap config a b (λ c. c) (λ c. after_passing c b d) is_a is_b refl
@@ -191,10 +191,10 @@ commute trap a b apart (passes c in_a is_a) (passes d in_b is_b) config =
 
 -- ---- actions that are apart, in any order
 
-pub in_either_order : (trap : Lists) (a b : Action) → AreApart trap a b → (config : List (List Ion)) → after trap (after trap config a) b ≡ after trap (after trap config b) a
+pub in_either_order : (trap : TrapValue) (a b : Action) → AreApart trap a b → (config : List (List Ion)) → after trap (after trap config a) b ≡ after trap (after trap config b) a
 in_either_order trap a b apart config = commute trap a b apart (effect trap a) (effect trap b) config
 
-of_step : (trap : Lists) (step : List Action) → AllPairs (AreApart trap) step → (config : List (List Ion)) (a b : Action) → Contains step a → Contains step b → after trap (after trap config a) b ≡ after trap (after trap config b) a
+of_step : (trap : TrapValue) (step : List Action) → AllPairs (AreApart trap) step → (config : List (List Ion)) (a b : Action) → Contains step a → Contains step b → after trap (after trap config a) b ≡ after trap (after trap config b) a
 of_step trap step apart config a b in_a in_b =
     let i : ℕ = in_a.0 in
     let j : ℕ = in_b.0 in
@@ -208,6 +208,6 @@ of_step trap step apart config a b in_a in_b =
       ]
     ]
 
-pub step_in_any_order : (trap : Lists) (config : List (List Ion)) (step other : List Action) → AllPairs (AreApart trap) step → IsPermutation step other → after_step trap config other ≡ after_step trap config step
+pub step_in_any_order : (trap : TrapValue) (config : List (List Ion)) (step other : List Action) → AllPairs (AreApart trap) step → IsPermutation step other → after_step trap config other ≡ after_step trap config step
 step_in_any_order trap config step other apart moved =
     any_order (after trap) (Contains step) (λ c a b in_a in_b. of_step trap step apart c a b in_a in_b) step other (All-contains_itself step) moved config

@@ -9,13 +9,14 @@ use Rattle.std.proofs.lemmas.Grind.{flat_map-append}
 use Rattle.std.proofs.lemmas.Option.{same_Some, slice_get_within, slice_get-get_or}
 use Rattle.std.proofs.lemmas.List.{drop_more, take_more, take_all, drop_all, append-nil}
 use Rattle.qc_base.specs.declared.ids.Qubit.{Qubit}
-use Rattle.circuit_core.specs.Circuit.{Parts, qubit_count}
-use Rattle.trap_model.specs.Trap.{Lists, limit_of, load_of, slot_at}
+use Rattle.circuit_core.specs.Circuit.{CircuitValue, qubit_count}
+use Rattle.trap_model.specs.Trap.{TrapValue, limit_of, load_of, slot_at}
 use Rattle.trap_model.specs.Build.{IsTrap}
 use Rattle.trap_model.specs.declared.parts.ZonePart.{ZonePart}
 use Rattle.step_rules.specs.declared.placement.GivenFault.{GivenFault}
 use Rattle.step_rules.specs.declared.placement.GivenFault.TheVariants.{Repeated, Full, Missing}
-use Rattle.step_rules.specs.Placement.{reading_order, times, stands, first_repeated, zone_fault, zones_fault, missing_fault, unless_fault, placement_of, IsPlacement, IsNumbered}
+use Rattle.circuit_core.specs.Deciding.{stands}
+use Rattle.step_rules.specs.Placement.{reading_order, times, first_repeated, zone_fault, zones_fault, missing_fault, unless_fault, placement_of, IsPlacement, IsNumbered}
 use Rattle.step_rules.specs.Flags.{AreFlags}
 use Rattle.step_rules.proofs.Reading.{times-append, times_none, times_some, find_none, find_same}
 
@@ -53,11 +54,11 @@ once_each before (q ∷ list) e once n =
     let same : (before ++ q ∷ []) ++ list ≡ before ++ q ∷ list = append_assoc before (q ∷ []) list in
     subst (λ (l : List Qubit). times n l ≤ 1) same (once_each (before ++ q ∷ []) list parts.1 grown n)
 
-pub record ZonesFit (trap : Lists) (zone : ℕ) (before : List Qubit) (lists : List (List Qubit)) : Type 0 where
+pub record ZonesFit (trap : TrapValue) (zone : ℕ) (before : List Qubit) (lists : List (List Qubit)) : Type 0 where
   pub once : (n : ℕ) → times n (before ++ reading_order lists) ≤ 1
   pub room : (k : ℕ) (list : List Qubit) → slice_get lists k ≡ Some list → length list ≤ limit_of trap (zone + k)
 
-room_of : (trap : Lists) (zone : ℕ) (first : List Qubit) (lists : List (List Qubit)) → length first ≤ limit_of trap zone
+room_of : (trap : TrapValue) (zone : ℕ) (first : List Qubit) (lists : List (List Qubit)) → length first ≤ limit_of trap zone
     → ((k : ℕ) (list : List Qubit) → slice_get lists k ≡ Some list → length list ≤ limit_of trap (zone + 1 + k))
     → (k : ℕ) (list : List Qubit) → slice_get (first ∷ lists) k ≡ Some list → length list ≤ limit_of trap (zone + k)
 room_of trap zone first lists small rest zero list e =
@@ -67,7 +68,7 @@ room_of trap zone first lists small rest (suc k) list e =
     let here : zone + 1 + k ≡ zone + suc k = omega arith in
     subst (λ (z : ℕ). length list ≤ limit_of trap z) here (rest k list e)
 
-zones_fit : (trap : Lists) (zone : ℕ) (before : List Qubit) (lists : List (List Qubit)) → zones_fault trap zone before lists ≡ None → ((n : ℕ) → times n before ≤ 1) → ZonesFit trap zone before lists
+zones_fit : (trap : TrapValue) (zone : ℕ) (before : List Qubit) (lists : List (List Qubit)) → zones_fault trap zone before lists ≡ None → ((n : ℕ) → times n before ≤ 1) → ZonesFit trap zone before lists
 zones_fit trap zone before [] e once = record {
   once = λ n. omega (arith, once n, times-append n before []);
   room = λ k list f. absurd cc;
@@ -89,7 +90,7 @@ no_fault : (fault : Option GivenFault) (lists : List (List Qubit)) → unless_fa
 no_fault None lists e = refl
 no_fault (Some fault) lists e = absurd cc
 
-pub is_placement : (trap : Lists) (circuit : Parts) (lists : List (List Qubit)) → placement_of trap circuit lists ≡ Ok lists → length lists ≡ length trap.zones → All (λ (qubit : Qubit). qubit.0 < qubit_count circuit) (reading_order lists)
+pub is_placement : (trap : TrapValue) (circuit : CircuitValue) (lists : List (List Qubit)) → placement_of trap circuit lists ≡ Ok lists → length lists ≡ length trap.zones → All (λ (qubit : Qubit). qubit.0 < qubit_count circuit) (reading_order lists)
     → IsPlacement trap circuit lists
 is_placement trap circuit lists e zones qubits =
     let clean = neither (zones_fault trap 0 [] lists) (missing_fault circuit lists) (no_fault _ lists e) in
@@ -110,15 +111,15 @@ few_in_all (list ∷ lists) small =
 abbrev option_limit : List ZonePart → ℕ → ℕ → ℕ
 option_limit zones k other = option_map_or (λ (zone : ZonePart). zone.capacity) (slice_get zones k) other
 
-zone_limit : (trap : Lists) (zones : List ZonePart) (k other : ℕ) → All (λ zone. (1 ≤ zone.capacity) × (zone.capacity ≤ 32)) zones → k < length zones → option_limit zones k other ≤ 32
+zone_limit : (trap : TrapValue) (zones : List ZonePart) (k other : ℕ) → All (λ zone. (1 ≤ zone.capacity) × (zone.capacity ≤ 32)) zones → k < length zones → option_limit zones k other ≤ 32
 zone_limit trap [] k other small h = absurd (omega arith)
 zone_limit trap (zone ∷ zones) zero other small h = (small 0 zone (omega arith)).1
 zone_limit trap (zone ∷ zones) (suc k) other small h = (let P : ZonePart → Type 0 = λ z. (1 ≤ z.capacity) × (z.capacity ≤ 32) in zone_limit trap zones k other (All-tail P zone zones small) (omega arith))
 
-pub limit_small : (trap : Lists) (k : ℕ) → IsTrap trap → k < length trap.zones → limit_of trap k ≤ 32
+pub limit_small : (trap : TrapValue) (k : ℕ) → IsTrap trap → k < length trap.zones → limit_of trap k ≤ 32
 limit_small trap k sound h = zone_limit trap trap.zones k _ sound.capacities h
 
-pub is_numbered : (trap : Lists) (circuit : Parts) (lists : List (List Qubit)) → placement_of trap circuit lists ≡ Ok lists → length lists ≡ length trap.zones → IsTrap trap → IsNumbered lists
+pub is_numbered : (trap : TrapValue) (circuit : CircuitValue) (lists : List (List Qubit)) → placement_of trap circuit lists ≡ Ok lists → length lists ≡ length trap.zones → IsTrap trap → IsNumbered lists
 is_numbered trap circuit lists e zones sound =
     let clean = neither (zones_fault trap 0 [] lists) (missing_fault circuit lists) (no_fault _ lists e) in
     let fit = zones_fit trap 0 [] lists clean.0 (λ n. omega arith) in
@@ -132,14 +133,14 @@ is_numbered trap circuit lists e zones sound =
 
 -- ---- zone after zone
 
-pub zone_limit_is : (trap : Lists) (k : ℕ) (d : ZonePart) → k < length trap.zones → limit_of trap k ≡ (get_or trap.zones k d).capacity
+pub zone_limit_is : (trap : TrapValue) (k : ℕ) (d : ZonePart) → k < length trap.zones → limit_of trap k ≡ (get_or trap.zones k d).capacity
 zone_limit_is trap k d h = ap (λ (o : Option ZonePart). option_map_or (λ (zone : ZonePart). zone.capacity) o (option_map_or (load_of trap) (slot_at trap k) 0)) (slice_get-get_or trap.zones k d h)
 
 pub grown : (lists : List (List Qubit)) (k : ℕ) (d : List Qubit) → k < length lists → reading_order (take k lists) ++ get_or lists k d ≡ reading_order (take (k + 1) lists)
 grown lists k d h = sym (ap reading_order (take_more lists k d h) ∙ flat_map-append (λ list. list) (take k lists) (get_or lists k d ∷ []) ∙ ap (λ (l : List Qubit). reading_order (take k lists) ++ l) (append-nil (get_or lists k d)))
 
 -- the zones from k on, where the k-th has no fault
-pub next_zone : (trap : Lists) (lists : List (List Qubit)) (k : ℕ) (d : List Qubit) → k < length lists → first_repeated (reading_order (take k lists)) (get_or lists k d) ≡ None → length (get_or lists k d) ≤ limit_of trap k
+pub next_zone : (trap : TrapValue) (lists : List (List Qubit)) (k : ℕ) (d : List Qubit) → k < length lists → first_repeated (reading_order (take k lists)) (get_or lists k d) ≡ None → length (get_or lists k d) ≤ limit_of trap k
     → zones_fault trap k (reading_order (take k lists)) (drop k lists) ≡ zones_fault trap (k + 1) (reading_order (take (k + 1) lists)) (drop (k + 1) lists)
 next_zone trap lists k d h new small =
     let before : List Qubit = reading_order (take k lists) in
@@ -151,7 +152,7 @@ next_zone trap lists k d h new small =
     ∙ ap (λ (l : List Qubit). zones_fault trap (k + 1) l (drop (k + 1) lists)) (grown lists k d h)
 
 -- a repeated qubit, and a zone that is too full
-pub repeats : (trap : Lists) (lists : List (List Qubit)) (k : ℕ) (d : List Qubit) (q : Qubit) → k < length lists → first_repeated (reading_order (take k lists)) (get_or lists k d) ≡ Some q
+pub repeats : (trap : TrapValue) (lists : List (List Qubit)) (k : ℕ) (d : List Qubit) (q : Qubit) → k < length lists → first_repeated (reading_order (take k lists)) (get_or lists k d) ≡ Some q
     → zones_fault trap k (reading_order (take k lists)) (drop k lists) ≡ Some (Repeated q)
 repeats trap lists k d q h found =
     let before : List Qubit = reading_order (take k lists) in
@@ -160,7 +161,7 @@ repeats trap lists k d q h found =
     ap (zones_fault trap k before) (drop_more lists k d h)
     ∙ ap (λ (o : Option Qubit). option_or (option_or (option_map Repeated o) (cond (nat_le (length list) (limit_of trap k)) None (Some (Full (record { 0 = k }))))) rest) found
 
-pub is_full : (trap : Lists) (lists : List (List Qubit)) (k : ℕ) (d : List Qubit) → k < length lists → first_repeated (reading_order (take k lists)) (get_or lists k d) ≡ None → limit_of trap k < length (get_or lists k d)
+pub is_full : (trap : TrapValue) (lists : List (List Qubit)) (k : ℕ) (d : List Qubit) → k < length lists → first_repeated (reading_order (take k lists)) (get_or lists k d) ≡ None → limit_of trap k < length (get_or lists k d)
     → zones_fault trap k (reading_order (take k lists)) (drop k lists) ≡ Some (Full (record { 0 = k }))
 is_full trap lists k d h new large =
     let before : List Qubit = reading_order (take k lists) in
@@ -171,10 +172,10 @@ is_full trap lists k d h new large =
     ∙ ap (λ (b : Bool). option_or (option_or None (cond b None (Some (Full (record { 0 = k }))))) rest) (lt-leb (length list) (limit_of trap k) large)
 
 -- the whole answer, by the first fault of the zones
-pub answer_fault : (trap : Lists) (circuit : Parts) (lists : List (List Qubit)) (fault : GivenFault) → zones_fault trap 0 [] lists ≡ Some fault → placement_of trap circuit lists ≡ Err fault
+pub answer_fault : (trap : TrapValue) (circuit : CircuitValue) (lists : List (List Qubit)) (fault : GivenFault) → zones_fault trap 0 [] lists ≡ Some fault → placement_of trap circuit lists ≡ Err fault
 answer_fault trap circuit lists fault e = ap (λ (o : Option GivenFault). unless_fault (option_or o (missing_fault circuit lists)) lists) e
 
-pub answer_missing : (trap : Lists) (circuit : Parts) (lists : List (List Qubit)) (number : Option ℕ) → zones_fault trap 0 [] lists ≡ None
+pub answer_missing : (trap : TrapValue) (circuit : CircuitValue) (lists : List (List Qubit)) (number : Option ℕ) → zones_fault trap 0 [] lists ≡ None
     → find (λ k. not (stands k (reading_order lists))) (range_with_len 0 (qubit_count circuit)) ≡ number → placement_of trap circuit lists ≡ unless_fault (option_map (λ k. Missing (record { 0 = k })) number) lists
 answer_missing trap circuit lists number e found =
     ap (λ (o : Option GivenFault). unless_fault (option_or o (missing_fault circuit lists)) lists) e
@@ -183,7 +184,7 @@ answer_missing trap circuit lists number e found =
 -- ---- the loop over the zones, and what it answers
 
 -- the capacity that is read for a zone is its limit
-pub limit_read : (trap : Lists) (zones : List ZonePart) (k : ℕ) (zone : ZonePart) → zones ≡ trap.zones → zone ≡ get_or zones k zone → k < length trap.zones → limit_of trap k ≡ zone.capacity
+pub limit_read : (trap : TrapValue) (zones : List ZonePart) (k : ℕ) (zone : ZonePart) → zones ≡ trap.zones → zone ≡ get_or zones k zone → k < length trap.zones → limit_of trap k ≡ zone.capacity
 limit_read trap zones k zone same read h =
     zone_limit_is trap k zone h ∙ ap (λ (zs : List ZonePart). (get_or zs k zone).capacity) (sym same) ∙ ap (λ (z : ZonePart). z.capacity) (sym read)
 
@@ -204,19 +205,19 @@ pub marked_zone : (flags : List Bool) (lists : List (List Qubit)) (k : ℕ) (lis
 marked_zone flags lists k list h read are =
     subst (AreFlags flags) (ap (λ (l : List Qubit). reading_order (take k lists) ++ l) (sym read) ∙ grown lists k list h) are
 
-pub clean_zone : (trap : Lists) (lists : List (List Qubit)) (k : ℕ) (list : List Qubit) → k < length lists → get_or lists k list ≡ list → None ≡ first_repeated (reading_order (take k lists)) list → length list ≤ limit_of trap k
+pub clean_zone : (trap : TrapValue) (lists : List (List Qubit)) (k : ℕ) (list : List Qubit) → k < length lists → get_or lists k list ≡ list → None ≡ first_repeated (reading_order (take k lists)) list → length list ≤ limit_of trap k
     → zones_fault trap k (reading_order (take k lists)) (drop k lists) ≡ zones_fault trap (k + 1) (reading_order (take (k + 1) lists)) (drop (k + 1) lists)
 clean_zone trap lists k list h read new small =
     next_zone trap lists k list h (ap (first_repeated (reading_order (take k lists))) read ∙ sym new) (subst (λ (l : List Qubit). length l ≤ limit_of trap k) (sym read) small)
 
-pub answer_full : (trap : Lists) (circuit : Parts) (lists given : List (List Qubit)) (k : ℕ) (list : List Qubit) → lists ≡ given → k < length lists → get_or lists k list ≡ list → None ≡ first_repeated (reading_order (take k lists)) list
+pub answer_full : (trap : TrapValue) (circuit : CircuitValue) (lists given : List (List Qubit)) (k : ℕ) (list : List Qubit) → lists ≡ given → k < length lists → get_or lists k list ≡ list → None ≡ first_repeated (reading_order (take k lists)) list
     → limit_of trap k < length list → zones_fault trap 0 [] lists ≡ zones_fault trap k (reading_order (take k lists)) (drop k lists) → Err (Full (record { 0 = k })) ≡ placement_of trap circuit given
 answer_full trap circuit lists given k list same h read new large so_far =
     let fault : zones_fault trap k (reading_order (take k lists)) (drop k lists) ≡ Some (Full (record { 0 = k })) =
     is_full trap lists k list h (ap (first_repeated (reading_order (take k lists))) read ∙ sym new) (subst (λ (l : List Qubit). limit_of trap k < length l) (sym read) large) in
     sym (answer_fault trap circuit lists (Full (record { 0 = k })) (so_far ∙ fault)) ∙ ap (placement_of trap circuit) same
 
-pub answer_repeated : (trap : Lists) (circuit : Parts) (lists given : List (List Qubit)) (k : ℕ) (list : List Qubit) (q : Qubit) → lists ≡ given → k < length lists → get_or lists k list ≡ list → Some q ≡ first_repeated (reading_order (take k lists)) list
+pub answer_repeated : (trap : TrapValue) (circuit : CircuitValue) (lists given : List (List Qubit)) (k : ℕ) (list : List Qubit) (q : Qubit) → lists ≡ given → k < length lists → get_or lists k list ≡ list → Some q ≡ first_repeated (reading_order (take k lists)) list
     → zones_fault trap 0 [] lists ≡ zones_fault trap k (reading_order (take k lists)) (drop k lists) → Err (Repeated q) ≡ placement_of trap circuit given
 answer_repeated trap circuit lists given k list q same h read again so_far =
     let fault : zones_fault trap k (reading_order (take k lists)) (drop k lists) ≡ Some (Repeated q) =
@@ -224,7 +225,7 @@ answer_repeated trap circuit lists given k list q same h read again so_far =
     sym (answer_fault trap circuit lists (Repeated q) (so_far ∙ fault)) ∙ ap (placement_of trap circuit) same
 
 -- the answer by the least number that isn't marked
-pub decided : (trap : Lists) (circuit : Parts) (lists given : List (List Qubit)) (flags slice : List Bool) (k : ℕ) (number : Option ℕ) → lists ≡ given → length lists ≤ k
+pub decided : (trap : TrapValue) (circuit : CircuitValue) (lists given : List (List Qubit)) (flags slice : List Bool) (k : ℕ) (number : Option ℕ) → lists ≡ given → length lists ≤ k
     → zones_fault trap 0 [] lists ≡ zones_fault trap k (reading_order (take k lists)) (drop k lists) → length flags ≡ qubit_count circuit → AreFlags flags (reading_order (take k lists))
     → slice ≡ flags → number ≡ find (λ n. not (get_or slice n false)) (range_with_len 0 (length slice))
     → placement_of trap circuit given ≡ unless_fault (option_map (λ n. Missing (record { 0 = n })) number) given

@@ -7,7 +7,8 @@ use Rattle.std.proofs.lemmas.Option.{same_Some}
 use Rattle.std.proofs.lemmas.List.{drop_more, take_more, length-set, length-replicate, get_or-replicate, get_or_default}
 use Rattle.std.proofs.lemmas.List.Folds.{list_any-append}
 use Rattle.qc_base.specs.declared.ids.Qubit.{Qubit}
-use Rattle.step_rules.specs.Placement.{reading_order, place_of, times, stands, first_repeated}
+use Rattle.circuit_core.specs.Deciding.{stands}
+use Rattle.step_rules.specs.Placement.{reading_order, place_of, times, first_repeated}
 use Rattle.step_rules.specs.Flags.{AreFlags}
 
 same_qubit : (a b : Qubit) → a.0 ≡ b.0 → a ≡ b

@@ -1,7 +1,7 @@
 -- A table of which qubits stand somewhere.
 use Rattle.std.specs.Prelude.{◌≡◌, ℕ, ◌<◌, Bool, false, List, length, slice_index_or}
 use Rattle.qc_base.specs.declared.ids.Qubit.{Qubit}
-use Rattle.step_rules.specs.Placement.{stands}
+use Rattle.circuit_core.specs.Deciding.{stands}
 
 -- the flag of each number says whether that qubit is among these
 abbrev pub AreFlags : List Bool → List Qubit → Type 0

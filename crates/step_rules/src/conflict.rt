@@ -6,8 +6,8 @@ ghost use Rattle.step_rules.specs.Tight.{Conflict, AreOrdered};
 ghost use Rattle.step_rules.specs.Footprint.{spots, place_spots};
 
 use crate::action::Action;
+use crate::action_channel::channel_for;
 use crate::spots::Footprint;
-use crate::way::channel_for;
 use circuit_core::{Circuit, forced};
 use qc_base::{End, PlaceId};
 use trap_model::Trap;

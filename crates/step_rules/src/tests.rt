@@ -3,7 +3,7 @@
 ghost use Rattle.std.specs.Prelude.{◌≡◌, ◌≤◌, ◌<◌, ◌∷◌, [], IsTrue, All, length, IfOk};
 ghost use Rattle.qc_base.specs.declared.ids.Qubit.{Qubit as AQubit};
 ghost use Rattle.circuit_core.specs.Circuit.{qubit_count};
-ghost use Rattle.trap_model.specs.Names.{is_name};
+ghost use Rattle.trap_model.specs.Names.{is_name as is_name_of};
 ghost use Rattle.trap_model.specs.Trap.{lists, names_of};
 ghost use Rattle.trap_model.specs.Build.{AreNames};
 ghost use Rattle.step_rules.specs.Placement.{reading_order, IsPlacement};
@@ -12,31 +12,21 @@ ghost use Rattle.step_rules.specs.Config.{IsConfigOf};
 use crate::action::{Action, Rule, Schedule};
 use crate::config::Config;
 use crate::conflict::{conflicts, footprint};
-use crate::placement::{GivenFault, Placement, Qubits};
+use crate::placement::{GivenFault, Placement};
 use crate::rules::enabled;
 use crate::spots::Footprint;
-use circuit_core::{Circuit, Op, Reg};
+use circuit_core::{Circuit, Op, Qubits, Reg};
 use qc_base::{End, Ion, JunctionId, Name, NoMemory, OpId, PlaceId, Qubit};
 use std::alloc::Global;
 use std::process::Abort;
 use std::test::Fail;
-use trap_model::{EndName, JoinPart, SegmentPart, Trap, TrapParts, ZonePart};
-
-// Whether it is a single letter.
-fn is_letter(bytes: &[u8]) -> bool
-    ensures { IsTrue result → IsTrue (is_name bytes.now) }
-{
-    match bytes {
-        [letter] => letter.is_ascii_alphabetic(),
-        _ => false,
-    }
-}
+use trap_model::{EndName, JoinPart, SegmentPart, Trap, TrapParts, ZonePart, is_name};
 
 fn zones_named(zones: &[ZonePart]) -> bool
-    ensures { IsTrue result → All (λ zone. IsTrue (is_name zone.name)) zones.now }
+    ensures { IsTrue result → All (λ zone. IsTrue (is_name_of zone.name)) zones.now }
 {
     for zone in zones {
-        if !is_letter(zone.name.bytes()) {
+        if !is_name(zone.name.bytes()) {
             return false;
         }
     }
@@ -44,10 +34,10 @@ fn zones_named(zones: &[ZonePart]) -> bool
 }
 
 fn segments_named(segments: &[SegmentPart]) -> bool
-    ensures { IsTrue result → All (λ segment. IsTrue (is_name segment.name)) segments.now }
+    ensures { IsTrue result → All (λ segment. IsTrue (is_name_of segment.name)) segments.now }
 {
     for segment in segments {
-        if !is_letter(segment.name.bytes()) {
+        if !is_name(segment.name.bytes()) {
             return false;
         }
     }
@@ -58,7 +48,7 @@ fn junctions_named(junctions: &[Name]) -> bool
     ensures { IsTrue result → AreNames junctions.now }
 {
     for junction in junctions {
-        if !is_letter(junction.bytes()) {
+        if !is_name(junction.bytes()) {
             return false;
         }
     }
@@ -152,7 +142,7 @@ fn trap_of(rt: &impl Abort, alloc: Global, sketch: &Sketch) -> Result<Trap, Fail
     Ok(trap)
 }
 
-// So many qubits, of which the first two meet.
+// So many qubits, of which the first two meet, and then a barrier on these two.
 fn circuit_of(alloc: Global, qubits: u32) -> Result<Circuit, NoMemory>
     requires some { 2 ≤ qubits }
     requires few { qubits ≤ 8 }
@@ -163,6 +153,12 @@ fn circuit_of(alloc: Global, qubits: u32) -> Result<Circuit, NoMemory>
         control: Qubit(0),
         target: Qubit(1),
         cond: None,
+    })?;
+    let mut pair = Vec::new(alloc);
+    pair.push(Qubit(0))?;
+    pair.push(Qubit(1))?;
+    ops.push(Op::Barrier {
+        qubits: Qubits::from_vec(pair),
     })?;
     let name = Name::from_bytes(alloc, b"q")?;
     let mut qregs = Vec::new(alloc);
@@ -254,7 +250,7 @@ fn op(zone: u32, op: u32) -> Action {
     }
 }
 
-// Does the action where it passes its tests.
+// Does the action where it passes its guards.
 fn act(
     trap: &Trap,
     circuit: &Circuit,
@@ -395,6 +391,7 @@ fn broken_rules(rt: HostRuntime) -> Result<(), Fail> {
         (goes(0, 2), Err(Rule::NoPlace)),
         (op(0, 0), Err(Rule::Absent)),
         (op(0, 9), Err(Rule::NotOp)),
+        (op(0, 1), Err(Rule::NotOp)),
         (merge(0, End::B), Ok(())),
         (op(0, 0), Ok(())),
     ];

@@ -18,7 +18,7 @@ use Rattle.trap_model.specs.declared.port.Port.TheVariants as ports
 use Rattle.trap_model.specs.declared.port.Link.{Link}
 use Rattle.trap_model.specs.declared.port.Link.TheVariants as links
 use Rattle.trap_model.specs.declared.fault.Counted.{Counted}
-use Rattle.trap_model.specs.Trap.{Lists, names_of, slot_count}
+use Rattle.trap_model.specs.Trap.{TrapValue, names_of, slot_count}
 use Rattle.trap_model.specs.Joins.{port_named, link_of, link_at, links_of, ends_of}
 use Rattle.trap_model.specs.Build.{few, first_double, is_between, hold_ions, are_measured, same_port, is_taken, join_of, joins_from, segments_at, all_differ, are_arms, are_armed, parts_pass, build_of, IsTrap, HasArms}
 use Rattle.trap_model.proofs.Joined.{same_port_decides}
@@ -63,22 +63,22 @@ measured (segment ∷ segments) lengths loads =
     let m = loads 0 segment (omega arith) in
     rw (between_from 1 16 segment.slots l.0 l.1, between_from 1 16 segment.load m.0 m.1) (measured segments (λ k d h. lengths (suc k) d (omega arith)) (λ k d h. loads (suc k) d (omega arith)))
 
-second_port : (trap : Lists) (first : Port) (second : Option Port) (link : Link) → option_and_then (link_of first) second ≡ Some link → (s : Port) × (second ≡ Some s) × (link_of first s ≡ Some link)
+second_port : (trap : TrapValue) (first : Port) (second : Option Port) (link : Link) → option_and_then (link_of first) second ≡ Some link → (s : Port) × (second ≡ Some s) × (link_of first s ≡ Some link)
 second_port trap first None link e = absurd (none-some link e)
 second_port trap first (Some s) link e = (s, refl, e)
 
-both_ports : (trap : Lists) (first second : Option Port) (link : Link) → option_and_then (λ f. option_and_then (link_of f) second) first ≡ Some link
+both_ports : (trap : TrapValue) (first second : Option Port) (link : Link) → option_and_then (λ f. option_and_then (link_of f) second) first ≡ Some link
     → (f : Port) × (s : Port) × (first ≡ Some f) × (second ≡ Some s) × (link_of f s ≡ Some link)
 both_ports trap None second link e = absurd (none-some link e)
 both_ports trap (Some f) second link e = let p = second_port trap f second link e in (f, p.0, refl, p.1, p.2)
 
 -- a join that is known and free passes
-join_with : (trap : Lists) (row : ℕ) (before : List Link) (join : JoinPart) (link : Link) (first second : Port) → port_named trap join.first.name join.first.«end» ≡ Some first → port_named trap join.second.name join.second.«end» ≡ Some second
+join_with : (trap : TrapValue) (row : ℕ) (before : List Link) (join : JoinPart) (link : Link) (first second : Port) → port_named trap join.first.name join.first.«end» ≡ Some first → port_named trap join.second.name join.second.«end» ≡ Some second
     → link_of first second ≡ Some link → is_taken before link ≡ false → join_of trap row before join ≡ Ok link
 unfolding join_of
 join_with trap row before join link first second one two linked free = rw (one, two, linked, free) refl
 
-join_accepted : (trap : Lists) (row : ℕ) (before : List Link) (join : JoinPart) (link : Link) → link_at trap join ≡ Some link → is_taken before link ≡ false → join_of trap row before join ≡ Ok link
+join_accepted : (trap : TrapValue) (row : ℕ) (before : List Link) (join : JoinPart) (link : Link) → link_at trap join ≡ Some link → is_taken before link ≡ false → join_of trap row before join ≡ Ok link
 join_accepted trap row before join link e free =
     let p = both_ports trap (port_named trap join.first.name join.first.«end») (port_named trap join.second.name join.second.«end») link e in
     join_with trap row before join link p.0 p.1 p.2 p.3 p.4 free
@@ -100,16 +100,16 @@ known_link : (o : Option Link) → IsSome o → (link : Link) × (o ≡ Some lin
 known_link (Some link) s = (link, refl)
 known_link None s = absurd (both_ways false refl s)
 
-joins_step : (trap : Lists) (row : ℕ) (before : List Link) (join : JoinPart) (joins : List JoinPart) (link : Link) (answer : List Link) → join_of trap row before join ≡ Ok link
+joins_step : (trap : TrapValue) (row : ℕ) (before : List Link) (join : JoinPart) (joins : List JoinPart) (link : Link) (answer : List Link) → join_of trap row before join ≡ Ok link
     → joins_from trap (row + 1) (before ++ link ∷ []) joins ≡ Ok answer → joins_from trap row before (join ∷ joins) ≡ Ok answer
 unfolding joins_from
 joins_step trap row before join joins link answer one rest = rw one rest
 
-joins_none : (trap : Lists) (row : ℕ) (before : List Link) → joins_from trap row before [] ≡ Ok before
+joins_none : (trap : TrapValue) (row : ℕ) (before : List Link) → joins_from trap row before [] ≡ Ok before
 unfolding joins_from
 joins_none trap row before = refl
 
-joins_accepted : (trap : Lists) (row : ℕ) (before : List Link) (joins : List JoinPart) → All (λ join. IsSome (link_at trap join)) joins → AllPairs (λ a b. a ≢ b) (flat_map ends_of (before ++ filter_map (link_at trap) joins))
+joins_accepted : (trap : TrapValue) (row : ℕ) (before : List Link) (joins : List JoinPart) → All (λ join. IsSome (link_at trap join)) joins → AllPairs (λ a b. a ≢ b) (flat_map ends_of (before ++ filter_map (link_at trap) joins))
     → joins_from trap row before joins ≡ Ok (before ++ filter_map (link_at trap) joins)
 joins_accepted trap row before [] known once = rw append-nil (joins_none trap row before)
 joins_accepted trap row before (join ∷ joins) known once =
@@ -128,17 +128,17 @@ differ_from (x ∷ xs) all =
     let none : list_any (λ y. eqb y x) xs ≡ false = list_any_none (λ y. eqb y x) xs (λ k d h. ne_eqb (get_or xs k d) x (λ same. all 0 (suc k) d (omega arith) (omega arith) (sym same))) in
     rw none (differ_from xs (λ i j d below h. all (suc i) (suc j) d (omega arith) (omega arith)))
 
-arms_accepted : (trap : Lists) (junction : ℕ) → HasArms trap junction → are_arms (segments_at junction (links_of trap)) ≡ true
+arms_accepted : (trap : TrapValue) (junction : ℕ) → HasArms trap junction → are_arms (segments_at junction (links_of trap)) ≡ true
 arms_accepted trap junction a =
     let segments = segments_at junction (links_of trap) in
     let len = length-arms trap junction (links_of trap) in
     and_from (is_between 2 4 (length segments)) (all_differ segments) (between_from 2 4 (length segments) (omega (arith, a.some, len)) (omega (arith, a.few, len))) (differ_from segments a.apart)
 
-armed : (trap : Lists) (first : ℕ) (names : List (List ℕ)) → ((junction : ℕ) → junction < first + length names → HasArms trap junction) → are_armed (links_of trap) first names ≡ Ok tt
+armed : (trap : TrapValue) (first : ℕ) (names : List (List ℕ)) → ((junction : ℕ) → junction < first + length names → HasArms trap junction) → are_armed (links_of trap) first names ≡ Ok tt
 armed trap first [] has = refl
 armed trap first (name ∷ names) has = rw (arms_accepted trap first (has first (omega arith))) (armed trap (first + 1) names (λ junction h. has junction (omega arith)))
 
-tests_accepted : (trap : Lists) → IsTrap trap → parts_pass trap ≡ Ok tt
+tests_accepted : (trap : TrapValue) → IsTrap trap → parts_pass trap ≡ Ok tt
 unfolding parts_pass
 tests_accepted trap t =
     rw (
@@ -153,7 +153,7 @@ tests_accepted trap t =
     ) refl
 
 -- Parts that keep what each trap keeps are a trap.
-pub accepted : (trap : Lists) → IsTrap trap → build_of trap ≡ Ok trap
+pub accepted : (trap : TrapValue) → IsTrap trap → build_of trap ≡ Ok trap
 unfolding build_of
 accepted trap t =
     rw (tests_accepted trap t, joins_accepted trap 1 [] trap.joins t.joins t.once, armed trap 0 trap.junctions (λ junction h. t.arms junction (omega arith))) refl

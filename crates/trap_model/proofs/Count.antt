@@ -11,7 +11,7 @@ use Rattle.trap_model.specs.declared.port.Port.TheVariants as ports
 use Rattle.trap_model.specs.declared.port.Link.{Link}
 use Rattle.trap_model.specs.declared.port.Link.TheVariants as links
 use Rattle.trap_model.specs.declared.port.SlotEnd.{SlotEnd}
-use Rattle.trap_model.specs.Trap.{Lists, slot_count}
+use Rattle.trap_model.specs.Trap.{TrapValue, slot_count}
 use Rattle.trap_model.specs.Joins.{links_of, ends_of, arms_of}
 use Rattle.trap_model.specs.Channels.{dock_channels, move_channels, moves_from, cross_channels, cross, crossings_of, channels_of}
 use Rattle.trap_model.specs.Build.{same_port, IsTrap}
@@ -54,12 +54,12 @@ unfolding end_number
 small_end s A h = omega arith
 small_end s B h = omega arith
 
-small_number : (trap : Lists) (link : Link) → length trap.segments ≤ 256 → IsLink trap link → number_of link < 512
+small_number : (trap : TrapValue) (link : Link) → length trap.segments ≤ 256 → IsLink trap link → number_of link < 512
 unfolding number_of
 small_number trap (links.Dock zone g s e) few known = small_end s e (omega (arith, known.1))
 small_number trap (links.Arm s e junction) few known = small_end s e (omega (arith, known.0))
 
-small_numbers : (trap : Lists) (ls : List Link) → length trap.segments ≤ 256 → AreLinks trap ls → (q : ℕ) → list_any (eqb q) (map number_of ls) ≡ true → q < 512
+small_numbers : (trap : TrapValue) (ls : List Link) → length trap.segments ≤ 256 → AreLinks trap ls → (q : ℕ) → list_any (eqb q) (map number_of ls) ≡ true → q < 512
 small_numbers trap [] few known q e = absurd (both_ways false refl e)
 small_numbers trap (link ∷ ls) few known q e =
     elim (or_cases (eqb q (number_of link)) (list_any (eqb q) (map number_of ls)) e) [
@@ -72,13 +72,13 @@ length-map-numbers [] = refl
 length-map-numbers (link ∷ ls) = ap suc (length-map-numbers ls)
 
 -- each join takes an end of a segment, and there are 512
-pub few_links : (trap : Lists) → IsTrap trap → length (links_of trap) ≤ 512
+pub few_links : (trap : TrapValue) → IsTrap trap → length (links_of trap) ≤ 512
 few_links trap t =
     let distinct = IsDistinct-from_AllPairs same_port_decides (flat_map ends_of (links_of trap)) t.once in
     let numbers = map number_of (links_of trap) in
     omega (arith, length-map-numbers (links_of trap), length-le_from_distinct_below numbers 512 (distinct_numbers (links_of trap) distinct) (small_numbers trap (links_of trap) t.segments (links_known trap)))
 
-few_docks : (trap : Lists) (ls : List Link) → length (flat_map (dock_channels trap) ls) ≤ 2 * length ls
+few_docks : (trap : TrapValue) (ls : List Link) → length (flat_map (dock_channels trap) ls) ≤ 2 * length ls
 few_docks trap [] = omega arith
 few_docks trap (links.Dock zone g s e ∷ ls) = omega (arith, few_docks trap ls)
 few_docks trap (links.Arm s e junction ∷ ls) = omega (arith, few_docks trap ls)
@@ -105,7 +105,7 @@ few_crossings junction all [] h = omega arith
 few_crossings junction all (from ∷ arms) h =
     omega (arith, length-append (flat_map (cross_channels junction from) all) (flat_map (λ f. flat_map (cross_channels junction f) all) arms), few_from junction from all, few_crossings junction all arms h)
 
-few_all : (trap : Lists) (first n : ℕ) → ((junction : ℕ) → junction < first + n → length (arms_of trap junction) ≤ 4) → length (flat_map (crossings_of trap) (range_with_len first n)) ≤ 16 * n
+few_all : (trap : TrapValue) (first n : ℕ) → ((junction : ℕ) → junction < first + n → length (arms_of trap junction) ≤ 4) → length (flat_map (crossings_of trap) (range_with_len first n)) ≤ 16 * n
 few_all trap first zero h = omega arith
 few_all trap first (suc n) h =
     let few = h first (omega arith) in
@@ -114,7 +114,7 @@ few_all trap first (suc n) h =
     omega (arith, length-append (crossings_of trap first) (flat_map (crossings_of trap) (range_with_len (first + 1) n)), one, rest, few)
 
 -- all the channels have numbers of 32 bits
-pub few_channels : (trap : Lists) → IsTrap trap → length (channels_of trap) ≤ 2048
+pub few_channels : (trap : TrapValue) → IsTrap trap → length (channels_of trap) ≤ 2048
 few_channels trap t =
     let docks = flat_map (dock_channels trap) (links_of trap) in
     let moves = moves_from (length trap.zones) trap.segments in

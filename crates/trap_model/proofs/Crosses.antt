@@ -7,14 +7,14 @@ use Rattle.trap_model.specs.declared.channel.Channel.{Channel}
 use Rattle.trap_model.specs.declared.port.Link.{Link}
 use Rattle.trap_model.specs.declared.port.Link.TheVariants as links
 use Rattle.trap_model.specs.declared.port.SlotEnd.{SlotEnd}
-use Rattle.trap_model.specs.Trap.{Lists}
+use Rattle.trap_model.specs.Trap.{TrapValue}
 use Rattle.trap_model.specs.Joins.{links_of, arms_of, arm_at}
 use Rattle.trap_model.specs.Channels.{cross, cross_channels, crossings_of, channel_at, is_cross, cross_of, cross_channel}
 use Rattle.trap_model.proofs.Known.{AreLinks, links_known}
 use Rattle.trap_model.proofs.Finds.{channel_found, find_parts, find-append, no_moves, no_docks, no_crossings, no_junction, or_none}
 
 -- no junction of that number: no arms
-no_arms : (trap : Lists) (junction : ℕ) (ls : List Link) → length trap.junctions ≤ junction → AreLinks trap ls → filter_map (arm_at trap junction) ls ≡ []
+no_arms : (trap : TrapValue) (junction : ℕ) (ls : List Link) → length trap.junctions ≤ junction → AreLinks trap ls → filter_map (arm_at trap junction) ls ≡ []
 no_arms trap junction [] h known = refl
 no_arms trap junction (links.Dock zone e s f ∷ ls) h known = no_arms trap junction ls h known.1
 no_arms trap junction (links.Arm s e other ∷ ls) h known =
@@ -95,7 +95,7 @@ both_arms junction from to all (f ∷ arms) apart =
     ])
 
 -- the crossings of one junction
-find_in_junction : (trap : Lists) (junction from to : ℕ) → find (is_cross junction from to) (crossings_of trap junction) ≡ cross_channel trap junction from to
+find_in_junction : (trap : TrapValue) (junction from to : ℕ) → find (is_cross junction from to) (crossings_of trap junction) ≡ cross_channel trap junction from to
 find_in_junction trap junction from to =
     elim (cases_eq from to) [
       | inl same ↦ rw (same, eq-eqb to to refl) (no_self_all junction to (arms_of trap junction) (arms_of trap junction))
@@ -105,7 +105,7 @@ find_in_junction trap junction from to =
 other_junction : (junction from to other : ℕ) (f t : SlotEnd) → (junction ≡ other → ⊥) → is_cross junction from to (cross other f t) ≡ false
 other_junction junction from to other f t apart = and_left (eqb junction other) (eqb from f.slot && eqb to t.slot) (ne_eqb junction other apart)
 
-find_cross : (trap : Lists) (junction from to first n : ℕ) → first ≤ junction → junction < first + n → find (is_cross junction from to) (flat_map (crossings_of trap) (range_with_len first n)) ≡ cross_channel trap junction from to
+find_cross : (trap : TrapValue) (junction from to first n : ℕ) → first ≤ junction → junction < first + n → find (is_cross junction from to) (flat_map (crossings_of trap) (range_with_len first n)) ≡ cross_channel trap junction from to
 find_cross trap junction from to first zero low high = absurd (omega arith)
 find_cross trap junction from to first (suc n) low high =
     let p = is_cross junction from to in
@@ -118,17 +118,17 @@ find_cross trap junction from to first (suc n) low high =
           (find_cross trap junction from to (first + 1) n (omega (arith, later)) (omega arith))
     ])
 
-cross_without : (trap : Lists) (junction from to : ℕ) → arms_of trap junction ≡ [] → cross_channel trap junction from to ≡ None
+cross_without : (trap : TrapValue) (junction from to : ℕ) → arms_of trap junction ≡ [] → cross_channel trap junction from to ≡ None
 cross_without trap junction from to none =
     elim (cases_Bool (eqb from to)) [
       | inl same ↦ rw same refl
       | inr apart ↦ rw (apart, none) refl
     ]
 
-pub no_cross_channel : (trap : Lists) (junction from to : ℕ) → length trap.junctions ≤ junction → cross_channel trap junction from to ≡ None
+pub no_cross_channel : (trap : TrapValue) (junction from to : ℕ) → length trap.junctions ≤ junction → cross_channel trap junction from to ≡ None
 no_cross_channel trap junction from to h = cross_without trap junction from to (no_arms trap junction (links_of trap) h (links_known trap))
 
-find_crossings : (trap : Lists) (junction from to : ℕ) → find (is_cross junction from to) (flat_map (crossings_of trap) (range_with_len 0 (length trap.junctions))) ≡ cross_channel trap junction from to
+find_crossings : (trap : TrapValue) (junction from to : ℕ) → find (is_cross junction from to) (flat_map (crossings_of trap) (range_with_len 0 (length trap.junctions))) ≡ cross_channel trap junction from to
 find_crossings trap junction from to =
     elim (cases_lt junction (length trap.junctions)) [
       | inl there ↦ find_cross trap junction from to 0 (length trap.junctions) (omega arith) (omega (arith, there))
@@ -141,7 +141,7 @@ last_part : {X : Type 0} (a b c : Option X) → a ≡ None → b ≡ None → op
 last_part a b c p q = rw (p, q) refl
 
 -- the channel at the number of the crossing
-pub cross_leads : (trap : Lists) (junction from to : ℕ) → channel_at trap (cross_of trap junction from to) ≡ cross_channel trap junction from to
+pub cross_leads : (trap : TrapValue) (junction from to : ℕ) → channel_at trap (cross_of trap junction from to) ≡ cross_channel trap junction from to
 cross_leads trap junction from to =
     channel_found trap (is_cross junction from to) ∙ find_parts trap (is_cross junction from to)
     ∙ last_part _ _ (find (is_cross junction from to) (flat_map (crossings_of trap) (range_with_len 0 (length trap.junctions)))) (no_docks trap (is_cross junction from to) (λ z e s. refl) (λ z e s. refl) (links_of trap)) (no_moves (is_cross junction from to) (λ s. refl) (length trap.zones) trap.segments)

@@ -9,7 +9,7 @@ use Rattle.trap_model.specs.declared.channel.Channel.{Channel}
 use Rattle.trap_model.specs.declared.port.Link.{Link}
 use Rattle.trap_model.specs.declared.port.Link.TheVariants as links
 use Rattle.trap_model.specs.declared.port.SlotEnd.{SlotEnd}
-use Rattle.trap_model.specs.Trap.{Lists}
+use Rattle.trap_model.specs.Trap.{TrapValue}
 use Rattle.trap_model.specs.Joins.{links_of, slot_end, arms_of}
 use Rattle.trap_model.specs.Channels.{split, merge, cross, dock_channels, move_channels, moves_from, cross_channels, crossings_of, channels_of, channel_at}
 use Rattle.trap_model.proofs.Slots.{slice_get_right}
@@ -28,7 +28,7 @@ found_at p before (x ∷ xs) =
     let rest = rw (append_assoc, len) at (found_at p (before ++ x ∷ []) xs) in
     found_here p before x xs (p x) rest
 
-pub channel_found : (trap : Lists) (p : Channel → Bool) → channel_at trap (position_from p 0 (channels_of trap)) ≡ find p (channels_of trap)
+pub channel_found : (trap : TrapValue) (p : Channel → Bool) → channel_at trap (position_from p 0 (channels_of trap)) ≡ find p (channels_of trap)
 channel_found trap p = found_at p [] (channels_of trap)
 
 or_cond : {X : Type 0} (b : Bool) (x : X) (o p : Option X) → cond b (Some x) (option_or o p) ≡ option_or (cond b (Some x) o) p
@@ -44,7 +44,7 @@ or_none None = refl
 or_none (Some x) = refl
 
 -- a test that refuses all channels of the joins
-pub no_docks : (trap : Lists) (p : Channel → Bool) → ((zone : ℕ) (e : End) (s : SlotEnd) → p (split zone e s) ≡ false) → ((zone : ℕ) (e : End) (s : SlotEnd) → p (merge zone e s) ≡ false)
+pub no_docks : (trap : TrapValue) (p : Channel → Bool) → ((zone : ℕ) (e : End) (s : SlotEnd) → p (split zone e s) ≡ false) → ((zone : ℕ) (e : End) (s : SlotEnd) → p (merge zone e s) ≡ false)
     → (ls : List Link) → find p (flat_map (dock_channels trap) ls) ≡ None
 no_docks trap p splits merges [] = refl
 no_docks trap p splits merges (links.Arm s e junction ∷ ls) = no_docks trap p splits merges ls
@@ -73,14 +73,14 @@ no_junction p junction none all (from ∷ arms) =
     rw (find-append p (flat_map (cross_channels junction from) all) (flat_map (λ f. flat_map (cross_channels junction f) all) arms), no_arm p junction none from all) (no_junction p junction none all arms)
 
 -- one that refuses all crossings
-pub no_crossings : (trap : Lists) (p : Channel → Bool) (first n : ℕ) → ((junction : ℕ) → first ≤ junction → junction < first + n → (from to : SlotEnd) → p (cross junction from to) ≡ false) → find p (flat_map (crossings_of trap) (range_with_len first n)) ≡ None
+pub no_crossings : (trap : TrapValue) (p : Channel → Bool) (first n : ℕ) → ((junction : ℕ) → first ≤ junction → junction < first + n → (from to : SlotEnd) → p (cross junction from to) ≡ false) → find p (flat_map (crossings_of trap) (range_with_len first n)) ≡ None
 no_crossings trap p first zero none = refl
 no_crossings trap p first (suc n) none =
     rw (find-append p (crossings_of trap first) (flat_map (crossings_of trap) (range_with_len (first + 1) n)), no_junction p first (none first (omega arith) (omega arith)) (arms_of trap first) (arms_of trap first))
     (no_crossings trap p (first + 1) n (λ junction h below. none junction (omega arith) (omega arith)))
 
 -- the three parts of the channels
-pub find_parts : (trap : Lists) (p : Channel → Bool) → find p (channels_of trap)
+pub find_parts : (trap : TrapValue) (p : Channel → Bool) → find p (channels_of trap)
     ≡ option_or (option_or (find p (flat_map (dock_channels trap) (links_of trap))) (find p (moves_from (length trap.zones) trap.segments))) (find p (flat_map (crossings_of trap) (range_with_len 0 (length trap.junctions))))
 find_parts trap p =
     find-append p (flat_map (dock_channels trap) (links_of trap) ++ moves_from (length trap.zones) trap.segments) (flat_map (crossings_of trap) (range_with_len 0 (length trap.junctions)))

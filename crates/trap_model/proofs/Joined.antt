@@ -16,14 +16,14 @@ use Rattle.trap_model.specs.declared.port.Port.{Port}
 use Rattle.trap_model.specs.declared.port.Port.TheVariants as ports
 use Rattle.trap_model.specs.declared.port.Link.{Link}
 use Rattle.trap_model.specs.declared.port.Link.TheVariants as links
-use Rattle.trap_model.specs.Trap.{Lists}
+use Rattle.trap_model.specs.Trap.{TrapValue}
 use Rattle.trap_model.specs.Joins.{same_end, port_named, link_of, link_at, ends_of}
 use Rattle.trap_model.specs.Build.{◌>>◌, ◌>>=◌, unless, same_port, is_taken, join_of, joins_from}
 use Rattle.trap_model.proofs.Passed.{err_ok}
 use Rattle.trap_model.proofs.Distinct.{distinct_more}
 
 -- a join that passes: it joins what it says, and its ends are free
-pub record Passes (trap : Lists) (before : List Link) (join : JoinPart) (link : Link) : Type 0 where
+pub record Passes (trap : TrapValue) (before : List Link) (join : JoinPart) (link : Link) : Type 0 where
   pub joins : link_at trap join ≡ Some link
   pub free : is_taken before link ≡ false
 
@@ -34,50 +34,50 @@ free_if false row link answer e = (cc, refl)
 free_link : (before : List Link) (row : ℕ) (link answer : Link) → (unless (not (is_taken before link)) (EndTaken row) >> Ok link) ≡ Ok answer → (link ≡ answer) × (is_taken before link ≡ false)
 free_link before row link answer e = free_if (is_taken before link) row link answer e
 
-third_passes : (trap : Lists) (row : ℕ) (before : List Link) (answer : Link) (link : Option Link)
+third_passes : (trap : TrapValue) (row : ℕ) (before : List Link) (answer : Link) (link : Option Link)
     → (ok_or link (Pair row) >>= (λ l. unless (not (is_taken before l)) (EndTaken row) >> Ok l)) ≡ Ok answer → (link ≡ Some answer) × (is_taken before answer ≡ false)
 third_passes trap row before answer None e = absurd (err_ok (Pair row) answer e)
 third_passes trap row before answer (Some link) e = let p = free_link before row link answer e in (ap (λ l. Some l) p.0, rw p.0 at p.1)
 
-second_passes : (trap : Lists) (row : ℕ) (before : List Link) (answer : Link) (first : Port) (second : Option Port)
+second_passes : (trap : TrapValue) (row : ℕ) (before : List Link) (answer : Link) (first : Port) (second : Option Port)
     → (ok_or second (Unknown row) >>= (λ s. ok_or (link_of first s) (Pair row) >>= (λ l. unless (not (is_taken before l)) (EndTaken row) >> Ok l))) ≡ Ok answer
     → (option_and_then (link_of first) second ≡ Some answer) × (is_taken before answer ≡ false)
 second_passes trap row before answer first None e = absurd (err_ok (Unknown row) answer e)
 second_passes trap row before answer first (Some second) e = third_passes trap row before answer (link_of first second) e
 
-first_passes : (trap : Lists) (row : ℕ) (before : List Link) (answer : Link) (first second : Option Port)
+first_passes : (trap : TrapValue) (row : ℕ) (before : List Link) (answer : Link) (first second : Option Port)
     → (ok_or first (Unknown row) >>= (λ f. ok_or second (Unknown row) >>= (λ s. ok_or (link_of f s) (Pair row) >>= (λ l. unless (not (is_taken before l)) (EndTaken row) >> Ok l)))) ≡ Ok answer
     → (option_and_then (λ f. option_and_then (link_of f) second) first ≡ Some answer) × (is_taken before answer ≡ false)
 first_passes trap row before answer None second e = absurd (err_ok (Unknown row) answer e)
 first_passes trap row before answer (Some first) second e = second_passes trap row before answer first second e
 
-pub join_passes : (trap : Lists) (row : ℕ) (before : List Link) (join : JoinPart) (link : Link) → join_of trap row before join ≡ Ok link → Passes trap before join link
+pub join_passes : (trap : TrapValue) (row : ℕ) (before : List Link) (join : JoinPart) (link : Link) → join_of trap row before join ≡ Ok link → Passes trap before join link
 unfolding join_of
 join_passes trap row before join link e =
     let p = first_passes trap row before link (port_named trap join.first.name join.first.end) (port_named trap join.second.name join.second.end) e in
     record { joins = p.0; free = p.1 }
 
--- the first join passes, and the rest behind it
-pub record Goes (trap : Lists) (row : ℕ) (before : List Link) (join : JoinPart) (joins : List JoinPart) (answer : List Link) : Type 0 where
+-- the first join passes, and the rest after it
+pub record Goes (trap : TrapValue) (row : ℕ) (before : List Link) (join : JoinPart) (joins : List JoinPart) (answer : List Link) : Type 0 where
   pub link : Link
   pub passes : Passes trap before join link
   pub rest : joins_from trap (row + 1) (before ++ link ∷ []) joins ≡ Ok answer
 
-goes_on : (trap : Lists) (row : ℕ) (before : List Link) (join : JoinPart) (joins : List JoinPart) (answer : List Link) (first : Result Link TrapFault) → join_of trap row before join ≡ first
+goes_on : (trap : TrapValue) (row : ℕ) (before : List Link) (join : JoinPart) (joins : List JoinPart) (answer : List Link) (first : Result Link TrapFault) → join_of trap row before join ≡ first
     → (first >>= (λ link. joins_from trap (row + 1) (before ++ link ∷ []) joins)) ≡ Ok answer → Goes trap row before join joins answer
 goes_on trap row before join joins answer (Ok link) is e = record { link = link; passes = join_passes trap row before join link is; rest = e }
 goes_on trap row before join joins answer (Err fault) is e = absurd (err_ok fault answer e)
 
-pub joins_go : (trap : Lists) (row : ℕ) (before : List Link) (join : JoinPart) (joins : List JoinPart) (answer : List Link) → joins_from trap row before (join ∷ joins) ≡ Ok answer → Goes trap row before join joins answer
+pub joins_go : (trap : TrapValue) (row : ℕ) (before : List Link) (join : JoinPart) (joins : List JoinPart) (answer : List Link) → joins_from trap row before (join ∷ joins) ≡ Ok answer → Goes trap row before join joins answer
 unfolding joins_from
 joins_go trap row before join joins answer e = goes_on trap row before join joins answer (join_of trap row before join) refl e
 
-pub joins_end : (trap : Lists) (row : ℕ) (before answer : List Link) → joins_from trap row before [] ≡ Ok answer → before ≡ answer
+pub joins_end : (trap : TrapValue) (row : ℕ) (before answer : List Link) → joins_from trap row before [] ≡ Ok answer → before ≡ answer
 unfolding joins_from
 joins_end trap row before answer e = cc
 
 -- the answer is the links of the joins
-pub links_are : (trap : Lists) (row : ℕ) (before : List Link) (joins : List JoinPart) (answer : List Link) → joins_from trap row before joins ≡ Ok answer → answer ≡ before ++ filter_map (link_at trap) joins
+pub links_are : (trap : TrapValue) (row : ℕ) (before : List Link) (joins : List JoinPart) (answer : List Link) → joins_from trap row before joins ≡ Ok answer → answer ≡ before ++ filter_map (link_at trap) joins
 links_are trap row before [] answer e = sym (joins_end trap row before answer e) ∙ sym (append-nil before)
 links_are trap row before (join ∷ joins) answer e =
     let g = joins_go trap row before join joins answer e in
@@ -88,7 +88,7 @@ some_is : (o : Option Link) (link : Link) → o ≡ Some link → IsSome o
 some_is o link e = rw e refl
 
 -- each join is known
-pub joins_known : (trap : Lists) (row : ℕ) (before : List Link) (joins : List JoinPart) (answer : List Link) → joins_from trap row before joins ≡ Ok answer → All (λ join. IsSome (link_at trap join)) joins
+pub joins_known : (trap : TrapValue) (row : ℕ) (before : List Link) (joins : List JoinPart) (answer : List Link) → joins_from trap row before joins ≡ Ok answer → All (λ join. IsSome (link_at trap join)) joins
 joins_known trap row before [] answer e k d h = absurd (omega arith)
 joins_known trap row before (join ∷ joins) answer e zero d h = let g = joins_go trap row before join joins answer e in some_is (link_at trap join) g.link g.passes.joins
 joins_known trap row before (join ∷ joins) answer e (suc k) d h = let g = joins_go trap row before join joins answer e in joins_known trap (row + 1) (before ++ g.link ∷ []) joins answer g.rest k d (omega arith)
@@ -137,7 +137,7 @@ ends_more taken (links.Dock zone e segment f) all none =
     let apart : list_any (same_port s) (taken ++ z ∷ []) ≡ false = other_sort taken segment f zone e last in
     rw (append_assoc taken (z ∷ []) (s ∷ [])) at (distinct_more same_port same_port_decides (taken ++ z ∷ []) s first apart)
 
-pub joins_once : (trap : Lists) (row : ℕ) (before : List Link) (joins : List JoinPart) (answer : List Link) → Once before → joins_from trap row before joins ≡ Ok answer → Once answer
+pub joins_once : (trap : TrapValue) (row : ℕ) (before : List Link) (joins : List JoinPart) (answer : List Link) → Once before → joins_from trap row before joins ≡ Ok answer → Once answer
 joins_once trap row before [] answer once e = rw (joins_end trap row before answer e) at once
 joins_once trap row before (join ∷ joins) answer once e =
     let g = joins_go trap row before join joins answer e in

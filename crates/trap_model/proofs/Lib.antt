@@ -18,3 +18,5 @@ pub mod Within
 pub mod ReadTables
 pub mod PlaceTexts
 pub mod Accepted
+pub mod Counts
+pub mod Numbers

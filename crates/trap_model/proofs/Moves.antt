@@ -9,7 +9,7 @@ use Rattle.trap_model.specs.declared.parts.SegmentPart.{SegmentPart}
 use Rattle.trap_model.specs.declared.channel.Kind.TheVariants.{Move}
 use Rattle.trap_model.specs.declared.channel.Channel.{Channel}
 use Rattle.trap_model.specs.declared.port.Slot.{Slot}
-use Rattle.trap_model.specs.Trap.{Lists, slot, slots_from, slot_count, slot_at, place_count}
+use Rattle.trap_model.specs.Trap.{TrapValue, slot, slots_from, slot_count, slot_at, place_count}
 use Rattle.trap_model.specs.Joins.{firsts_from, first_slot, slots_of, links_of}
 use Rattle.trap_model.specs.Channels.{channel, move_channels, moves_from, channel_at, is_move, move_of, move_channel, same_segment}
 use Rattle.trap_model.proofs.Rows.{row_begins}
@@ -80,25 +80,25 @@ moves_last p c t h place (segment ∷ segments) (suc s) j there at last =
     first_row p place segment segments None (pairs_miss p c t h place (segment.slots - 1) (inr (omega (arith, begins, at)))) ∙ moves_last p c t h (place + segment.slots) segments s j inside at last
 
 -- no slot stands at a zone's place, and none past the last place
-pub no_slot_zone : (trap : Lists) (t : ℕ) → t < length trap.zones → slot_at trap t ≡ None
+pub no_slot_zone : (trap : TrapValue) (t : ℕ) → t < length trap.zones → slot_at trap t ≡ None
 no_slot_zone trap t h = cond-true (ltb t (length trap.zones)) None (slice_get (slots_from 0 trap.segments) (t - length trap.zones)) (lt-ltb t (length trap.zones) h)
 
-pub no_slot_past : (trap : Lists) (t : ℕ) → place_count trap ≤ t → slot_at trap t ≡ None
+pub no_slot_past : (trap : TrapValue) (t : ℕ) → place_count trap ≤ t → slot_at trap t ≡ None
 no_slot_past trap t h =
     slot_at_behind trap t (omega arith) ∙ slice_get_past (slots_from 0 trap.segments) (t - length trap.zones) (omega (arith, length-slots_from 0 trap.segments))
 
-pub slot_of_place : (trap : Lists) (t : ℕ) → length trap.zones ≤ t → (p : IsSlotPlace trap t) → slot_at trap t ≡ Some (slot p.segment p.index)
+pub slot_of_place : (trap : TrapValue) (t : ℕ) → length trap.zones ≤ t → (p : IsSlotPlace trap t) → slot_at trap t ≡ Some (slot p.segment p.index)
 slot_of_place trap t past p = slot_at_behind trap t past ∙ p.slot_is
 
--- the place behind the last slot of a row is of another row
-other_row : (trap : Lists) (t : ℕ) (here : IsSlotPlace trap t) (next : IsSlotPlace trap (t + 1)) → slots_of trap here.segment ≤ here.index + 1 → here.segment ≡ next.segment → ⊥
+-- the place after the last slot of a row is of another row
+other_row : (trap : TrapValue) (t : ℕ) (here : IsSlotPlace trap t) (next : IsSlotPlace trap (t + 1)) → slots_of trap here.segment ≤ here.index + 1 → here.segment ≡ next.segment → ⊥
 other_row trap t here next last same =
     let at : first_slot trap here.segment + next.index ≡ t + 1 = rw same next.at in
     let below : next.index < slots_of trap here.segment = rw same next.below in
     omega (arith, here.at, at, below, last)
 
 -- the pair of a slot is there where the next place is a slot of the same segment
-move_found : (trap : Lists) (p : Channel → Bool) (c : Channel) (t : ℕ) → Picks p c t
+move_found : (trap : TrapValue) (p : Channel → Bool) (c : Channel) (t : ℕ) → Picks p c t
     → find p (moves_from (length trap.zones) trap.segments) ≡ cond (same_segment (slot_at trap t) (slot_at trap (t + 1))) (Some c) None
 move_found trap p c t h =
     elim (cases_lt t (length trap.zones)) [
@@ -191,7 +191,7 @@ cond_same : {X : Type 0} (b : Bool) (x : X) → cond b x x ≡ x
 cond_same true x = refl
 cond_same false x = refl
 
-find_move : (trap : Lists) (from to : ℕ) → find (is_move from to) (moves_from (length trap.zones) trap.segments) ≡ move_channel trap from to
+find_move : (trap : TrapValue) (from to : ℕ) → find (is_move from to) (moves_from (length trap.zones) trap.segments) ≡ move_channel trap from to
 find_move trap from to =
     elim (cases_eq to (from + 1)) [
       | inl ahead ↦
@@ -210,7 +210,7 @@ middle_part : {X : Type 0} (a b c : Option X) → a ≡ None → c ≡ None → 
 middle_part a b c p q = rw (p, q) (or_none b)
 
 -- the channel at the number of the move
-pub move_leads : (trap : Lists) (from to : ℕ) → channel_at trap (move_of trap from to) ≡ move_channel trap from to
+pub move_leads : (trap : TrapValue) (from to : ℕ) → channel_at trap (move_of trap from to) ≡ move_channel trap from to
 move_leads trap from to =
     channel_found trap (is_move from to) ∙ find_parts trap (is_move from to)
     ∙ middle_part _ (find (is_move from to) (moves_from (length trap.zones) trap.segments)) _ (no_docks trap (is_move from to) (λ z e s. refl) (λ z e s. refl) (links_of trap)) (no_crossings trap (is_move from to) 0 (length trap.junctions) (λ junction h below f t. refl))
@@ -221,11 +221,11 @@ same_segment_none None = refl
 same_segment_none (Some s) = refl
 
 -- no slot there, no move
-pub no_move_from : (trap : Lists) (from to : ℕ) → place_count trap ≤ from → move_channel trap from to ≡ None
+pub no_move_from : (trap : TrapValue) (from to : ℕ) → place_count trap ≤ from → move_channel trap from to ≡ None
 no_move_from trap from to h = rw (no_slot_past trap from h) refl
 
-pub no_move_to : (trap : Lists) (from to : ℕ) → place_count trap ≤ to → move_channel trap from to ≡ None
+pub no_move_to : (trap : TrapValue) (from to : ℕ) → place_count trap ≤ to → move_channel trap from to ≡ None
 no_move_to trap from to h = rw (no_slot_past trap to h, same_segment_none) refl
 
-pub no_move_apart : (trap : Lists) (from to : ℕ) → eqb to (from + 1) ≡ false → eqb from (to + 1) ≡ false → move_channel trap from to ≡ None
+pub no_move_apart : (trap : TrapValue) (from to : ℕ) → eqb to (from + 1) ≡ false → eqb from (to + 1) ≡ false → move_channel trap from to ≡ None
 no_move_apart trap from to p q = rw (p, q, cond_same) refl

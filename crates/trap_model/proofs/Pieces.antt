@@ -15,7 +15,7 @@ flat_map_range_more f a (suc n) =
 pub map_range_more : {X : Type 0} (f : ℕ → X) (n : ℕ) → map f (range_with_len 0 (n + 1)) ≡ map f (range_with_len 0 n) ++ f n ∷ []
 map_range_more f n = map-range_with_len_more f 0 n n (omega arith)
 
--- one more, behind what was there before
+-- one more, after what was there before
 pub behind_map_more : {X : Type 0} (f : ℕ → X) (old now : List X) (n : ℕ) → now ≡ old ++ map f (range_with_len 0 n) → now ++ f n ∷ [] ≡ old ++ map f (range_with_len 0 (n + 1))
 behind_map_more f old now n e = rw (map_range_more f n, e) (append_assoc old (map f (range_with_len 0 n)) (f n ∷ []))
 

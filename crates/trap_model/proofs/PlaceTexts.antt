@@ -15,7 +15,7 @@ use Rattle.trap_model.specs.declared.parts.ZonePart.{ZonePart}
 use Rattle.trap_model.specs.declared.port.Slot.{Slot}
 use Rattle.trap_model.specs.Names.{is_name, is_word, begins_with_letter}
 use Rattle.trap_model.specs.Texts.{has_dot, IsSlotText, IsNoSlotText}
-use Rattle.trap_model.specs.Trap.{Lists, names_of, slot, place_count, place_text, place_named}
+use Rattle.trap_model.specs.Trap.{TrapValue, names_of, slot, place_count, place_text, place_named}
 use Rattle.trap_model.specs.Joins.{firsts_from, first_slot, slots_of, zone_named, segment_named}
 use Rattle.trap_model.specs.Build.{IsTrap}
 use Rattle.trap_model.proofs.Known.{position_at}
@@ -24,14 +24,14 @@ use Rattle.trap_model.proofs.Slots.{IsSlotRead, slot_place, slot_at_row}
 use Rattle.trap_model.proofs.Moves.{no_slot_past, slot_of_place}
 
 -- a slot is written by its segment's name and its number
-pub text_of_slot : (trap : Lists) (place : ℕ) (s : Slot) (part : SegmentPart) → length trap.zones ≤ place → IsSlotRead trap place s → part ≡ get_or trap.segments s.segment part → place_text trap place ≡ part.name ++ codes "." ++ decimal s.index
+pub text_of_slot : (trap : TrapValue) (place : ℕ) (s : Slot) (part : SegmentPart) → length trap.zones ≤ place → IsSlotRead trap place s → part ≡ get_or trap.segments s.segment part → place_text trap place ≡ part.name ++ codes "." ++ decimal s.index
 text_of_slot trap place s part past read is =
     let none = slice_get_past trap.zones place past in
     let there = slice_get_read trap.segments (length trap.segments) s.segment part refl read.there is in
     rw (none, read.is, there) refl
 
 -- what is no place is written as nothing
-pub text_past : (trap : Lists) (place : ℕ) → place_count trap ≤ place → place_text trap place ≡ []
+pub text_past : (trap : TrapValue) (place : ℕ) → place_count trap ≤ place → place_text trap place ≡ []
 text_past trap place h = rw (slice_get_past trap.zones place (omega arith), no_slot_past trap place h) refl
 
 word_is_no_dot : (byte : ℕ) → is_word byte ≡ true → eqb byte 46 ≡ false
@@ -79,7 +79,7 @@ unique xs i j d all p q e =
     ]
 
 -- the names of zones and of segments among all names
-pub zone_name : (trap : Lists) (k : ℕ) (zone : ZonePart) (d : List ℕ) → k < length trap.zones → slice_get trap.zones k ≡ Some zone → get_or (names_of trap) k d ≡ zone.name
+pub zone_name : (trap : TrapValue) (k : ℕ) (zone : ZonePart) (d : List ℕ) → k < length trap.zones → slice_get trap.zones k ≡ Some zone → get_or (names_of trap) k d ≡ zone.name
 zone_name trap k zone d h is =
     let zones = map (λ (z : ZonePart). z.name) trap.zones in
     let segments = map (λ (s : SegmentPart). s.name) trap.segments in
@@ -87,7 +87,7 @@ zone_name trap k zone d h is =
     get_or_append_left (zones ++ segments) trap.junctions d k (omega (arith, length-append zones segments, len)) ∙ get_or_append_left zones segments d k (omega (arith, len))
     ∙ get_or_from_slice_get zones k zone.name d (slice_get-map (λ (z : ZonePart). z.name) trap.zones k ∙ ap (λ o. option_map (λ (z : ZonePart). z.name) o) is)
 
-pub segment_name : (trap : Lists) (k : ℕ) (part : SegmentPart) (d : List ℕ) → k < length trap.segments → slice_get trap.segments k ≡ Some part → get_or (names_of trap) (length trap.zones + k) d ≡ part.name
+pub segment_name : (trap : TrapValue) (k : ℕ) (part : SegmentPart) (d : List ℕ) → k < length trap.segments → slice_get trap.segments k ≡ Some part → get_or (names_of trap) (length trap.zones + k) d ≡ part.name
 segment_name trap k part d h is =
     let zones = map (λ (z : ZonePart). z.name) trap.zones in
     let segments = map (λ (s : SegmentPart). s.name) trap.segments in
@@ -97,14 +97,14 @@ segment_name trap k part d h is =
     rw place (get_or_append_left (zones ++ segments) trap.junctions d (length zones + k) (omega (arith, length-append zones segments, count)) ∙ get_or-append-add zones segments k d
     ∙ get_or_from_slice_get segments k part.name d (slice_get-map (λ (s : SegmentPart). s.name) trap.segments k ∙ ap (λ o. option_map (λ (s : SegmentPart). s.name) o) is))
 
-names_count : (trap : Lists) → length (names_of trap) ≡ length trap.zones + length trap.segments + length trap.junctions
+names_count : (trap : TrapValue) → length (names_of trap) ≡ length trap.zones + length trap.segments + length trap.junctions
 names_count trap =
     let zones = map (λ (z : ZonePart). z.name) trap.zones in
     let segments = map (λ (s : SegmentPart). s.name) trap.segments in
     omega (arith, length-append (zones ++ segments) trap.junctions, length-append zones segments, length-map trap.zones (λ (z : ZonePart). z.name), length-map trap.segments (λ (s : SegmentPart). s.name))
 
 -- a slot's place, as its text has it
-pub record IsWritten (trap : Lists) (place : ℕ) : Type 0 where
+pub record IsWritten (trap : TrapValue) (place : ℕ) : Type 0 where
   pub segment : ℕ
   pub index : ℕ
   pub part : SegmentPart
@@ -114,7 +114,7 @@ pub record IsWritten (trap : Lists) (place : ℕ) : Type 0 where
   pub is : slice_get trap.segments segment ≡ Some part
   pub text : place_text trap place ≡ part.name ++ 46 ∷ decimal index
 
-pub slot_written_so : (trap : Lists) (place : ℕ) → length trap.zones ≤ place → place < place_count trap → IsWritten trap place
+pub slot_written_so : (trap : TrapValue) (place : ℕ) → length trap.zones ≤ place → place < place_count trap → IsWritten trap place
 slot_written_so trap place past h =
     let p = slot_place trap place past h in
     elim (slice_get_cases trap.segments p.segment).1 [
@@ -133,40 +133,40 @@ slot_written_so trap place past h =
       | inr past ↦ absurd (omega (arith, past.0, p.there))
     ]
 
-pub record IsZoneText (trap : Lists) (place : ℕ) : Type 0 where
+pub record IsZoneText (trap : TrapValue) (place : ℕ) : Type 0 where
   pub zone : ZonePart
   pub is : slice_get trap.zones place ≡ Some zone
   pub text : place_text trap place ≡ zone.name
 
-pub zone_written_so : (trap : Lists) (place : ℕ) → place < length trap.zones → IsZoneText trap place
+pub zone_written_so : (trap : TrapValue) (place : ℕ) → place < length trap.zones → IsZoneText trap place
 zone_written_so trap place h =
     elim (slice_get_cases trap.zones place).1 [
       | inl there ↦ record { zone = there.0; is = there.2; text = rw there.2 refl }
       | inr past ↦ absurd (omega (arith, past.0))
     ]
 
-zone_no_dot : (trap : Lists) (place : ℕ) (zone : ZonePart) → IsTrap trap → place < length trap.zones → slice_get trap.zones place ≡ Some zone → has_dot zone.name ≡ false
+zone_no_dot : (trap : TrapValue) (place : ℕ) (zone : ZonePart) → IsTrap trap → place < length trap.zones → slice_get trap.zones place ≡ Some zone → has_dot zone.name ≡ false
 zone_no_dot trap place zone t h is =
     let at = zone_name trap place zone [] h is in
     name_has_no_dot zone.name (rw at at (t.words place [] (omega (arith, names_count trap))))
 
-pub segment_no_dot : (trap : Lists) (k : ℕ) (part : SegmentPart) → IsTrap trap → k < length trap.segments → slice_get trap.segments k ≡ Some part → has_dot part.name ≡ false
+pub segment_no_dot : (trap : TrapValue) (k : ℕ) (part : SegmentPart) → IsTrap trap → k < length trap.segments → slice_get trap.segments k ≡ Some part → has_dot part.name ≡ false
 segment_no_dot trap k part t h is =
     let at = segment_name trap k part [] h is in
     name_has_no_dot part.name (rw at at (t.words (length trap.zones + k) [] (omega (arith, names_count trap))))
 
 -- segments of one name are one
-pub same_segment_name : (trap : Lists) (s r : ℕ) (part other : SegmentPart) → IsTrap trap → s < length trap.segments → r < length trap.segments → slice_get trap.segments s ≡ Some part → slice_get trap.segments r ≡ Some other → part.name ≡ other.name → s ≡ r
+pub same_segment_name : (trap : TrapValue) (s r : ℕ) (part other : SegmentPart) → IsTrap trap → s < length trap.segments → r < length trap.segments → slice_get trap.segments s ≡ Some part → slice_get trap.segments r ≡ Some other → part.name ≡ other.name → s ≡ r
 same_segment_name trap s r part other t p q is was e =
     let same = segment_name trap s part [] p is ∙ e ∙ sym (segment_name trap r other [] q was) in
     let one = unique (names_of trap) (length trap.zones + s) (length trap.zones + r) [] t.names (omega (arith, names_count trap)) (omega (arith, names_count trap)) same in
     omega (arith, one)
 
-small_slots : (trap : Lists) (s : ℕ) → IsTrap trap → s < length trap.segments → slots_of trap s ≤ 16
+small_slots : (trap : TrapValue) (s : ℕ) → IsTrap trap → s < length trap.segments → slots_of trap s ≤ 16
 small_slots trap s t h = (row_of trap s t h).few
 
 -- places that are written alike are one
-pub texts_differ : (trap : Lists) (p q : ℕ) → IsTrap trap → p < place_count trap → q < place_count trap → place_text trap p ≡ place_text trap q → p ≡ q
+pub texts_differ : (trap : TrapValue) (p q : ℕ) → IsTrap trap → p < place_count trap → q < place_count trap → place_text trap p ≡ place_text trap q → p ≡ q
 texts_differ trap p q t hp hq e =
     elim (cases_lt p (length trap.zones)) [
       | inl zp ↦
@@ -213,14 +213,14 @@ find_no test first (suc n) none =
     cond-false (test first) (Some first) (find test (range_with_len (first + 1) n)) (none first (omega arith)) ∙ find_no test (first + 1) n (λ j h. none j (omega arith))
 
 -- the place that is written so is the one of that text
-pub named_is : (trap : Lists) (k : ℕ) (text : List ℕ) → IsTrap trap → k < place_count trap → place_text trap k ≡ text → place_named trap text ≡ Some k
+pub named_is : (trap : TrapValue) (k : ℕ) (text : List ℕ) → IsTrap trap → k < place_count trap → place_text trap k ≡ text → place_named trap text ≡ Some k
 named_is trap k text t h is =
     let test = λ (place : ℕ). bytes_eq (place_text trap place) text in
     let here : test k ≡ true = (bytes_eq-Decides (place_text trap k) text).1 is in
     find_one test k 0 (place_count trap) (omega arith) (omega arith) here
     (λ j below same. texts_differ trap j k t (omega arith) h ((bytes_eq-Decides (place_text trap j) text).0 same ∙ sym is))
 
-pub named_none : (trap : Lists) (text : List ℕ) → ((place : ℕ) → place < place_count trap → place_text trap place ≢ text) → place_named trap text ≡ None
+pub named_none : (trap : TrapValue) (text : List ℕ) → ((place : ℕ) → place < place_count trap → place_text trap place ≢ text) → place_named trap text ≡ None
 named_none trap text none =
     find_no (λ place. bytes_eq (place_text trap place) text) 0 (place_count trap)
     (λ j below. false_from_ne_true (bytes_eq (place_text trap j) text) (λ same. none j (omega arith) ((bytes_eq-Decides (place_text trap j) text).0 same)))
@@ -252,14 +252,14 @@ position_false p i (x ∷ xs) e zero d h = (not_first p i x xs e).0
 position_false p i (x ∷ xs) e (suc n) d h = position_false p (i + 1) xs (not_first p i x xs e).1 n d (omega arith)
 
 -- the part that is found by a name has it
-pub segment_found : (trap : Lists) (name : List ℕ) (s : ℕ) (part : SegmentPart) → segment_named trap name ≡ Some s → part ≡ get_or trap.segments s part → part.name ≡ name
+pub segment_found : (trap : TrapValue) (name : List ℕ) (s : ℕ) (part : SegmentPart) → segment_named trap name ≡ Some s → part ≡ get_or trap.segments s part → part.name ≡ name
 segment_found trap name s part e read =
     let p = λ (segment : SegmentPart). bytes_eq segment.name name in
     let found = (position_true p 0 trap.segments s part e).1 in
     let same : s - 0 ≡ s = omega arith in
     (bytes_eq-Decides part.name name).0 (rw (same, ← read) at found)
 
-pub zone_found : (trap : Lists) (name : List ℕ) (k : ℕ) → zone_named trap name ≡ Some k → (k < length trap.zones) × (place_text trap k ≡ name)
+pub zone_found : (trap : TrapValue) (name : List ℕ) (k : ℕ) → zone_named trap name ≡ Some k → (k < length trap.zones) × (place_text trap k ≡ name)
 zone_found trap name k e =
     let p = λ (zone : ZonePart). bytes_eq zone.name name in
     let inside = position_at p trap.zones k e in
@@ -269,7 +269,7 @@ zone_found trap name k e =
     let at = get_or_from_slice_get trap.zones k w.zone w.zone w.is in
     (inside, w.text ∙ (bytes_eq-Decides w.zone.name name).0 (rw (same, at) at found))
 
-pub zone_not_found : (trap : Lists) (name : List ℕ) → zone_named trap name ≡ None → (k : ℕ) → k < length trap.zones → place_text trap k ≢ name
+pub zone_not_found : (trap : TrapValue) (name : List ℕ) → zone_named trap name ≡ None → (k : ℕ) → k < length trap.zones → place_text trap k ≢ name
 zone_not_found trap name e k h same =
     let w = zone_written_so trap k h in
     let p = λ (zone : ZonePart). bytes_eq zone.name name in
@@ -277,7 +277,7 @@ zone_not_found trap name e k h same =
     both_ways (bytes_eq w.zone.name name) none ((bytes_eq-Decides w.zone.name name).1 (sym w.text ∙ same))
 
 -- without a dot, no slot
-pub no_slot_without_dot : (trap : Lists) (text : List ℕ) → has_dot text ≡ false → IsNoSlotText trap text
+pub no_slot_without_dot : (trap : TrapValue) (text : List ℕ) → has_dot text ≡ false → IsNoSlotText trap text
 no_slot_without_dot trap text none place past h e =
     let w = slot_written_so trap place past h in
     both_ways (has_dot text) none (rw (sym e ∙ w.text) (dot_stands w.part.name (decimal w.index)))
@@ -286,20 +286,20 @@ no_slot_without_dot trap text none place past h e =
 pub text_cut : (text : List ℕ) (k : ℕ) → k < length text → get_or text k 0 ≡ 46 → take k text ++ 46 ∷ drop (k + 1) text ≡ text
 text_cut text k h dot = rw (← dot, ← drop_more text k 0 h) (take-append-drop k text)
 
--- a slot's text has the segment's name before the first dot, and the number behind it
-pub record IsCut (trap : Lists) (text : List ℕ) (k place : ℕ) : Type 0 where
+-- a slot's text has the segment's name before the first dot, and the number after it
+pub record IsCut (trap : TrapValue) (text : List ℕ) (k place : ℕ) : Type 0 where
   pub written : IsWritten trap place
   pub name : written.part.name ≡ take k text
   pub number : decimal written.index ≡ drop (k + 1) text
 
-pub cut_slot : (trap : Lists) (text : List ℕ) (k place : ℕ) → IsTrap trap → k < length text → get_or text k 0 ≡ 46 → has_dot (take k text) ≡ false → length trap.zones ≤ place → place < place_count trap → place_text trap place ≡ text → IsCut trap text k place
+pub cut_slot : (trap : TrapValue) (text : List ℕ) (k place : ℕ) → IsTrap trap → k < length text → get_or text k 0 ≡ 46 → has_dot (take k text) ≡ false → length trap.zones ≤ place → place < place_count trap → place_text trap place ≡ text → IsCut trap text k place
 cut_slot trap text k place t h dot first past there e =
     let w = slot_written_so trap place past there in
     let parts = dot_parts w.part.name (decimal w.index) (take k text) (drop (k + 1) text) (segment_no_dot trap w.segment w.part t w.there w.is) first (sym w.text ∙ e ∙ sym (text_cut text k h dot)) in
     record { written = w; name = parts.0; number = parts.1 }
 
 -- without the segment, no slot
-pub no_slot_without_segment : (trap : Lists) (text : List ℕ) (k : ℕ) → IsTrap trap → k < length text → get_or text k 0 ≡ 46 → has_dot (take k text) ≡ false → segment_named trap (take k text) ≡ None → IsNoSlotText trap text
+pub no_slot_without_segment : (trap : TrapValue) (text : List ℕ) (k : ℕ) → IsTrap trap → k < length text → get_or text k 0 ≡ 46 → has_dot (take k text) ≡ false → segment_named trap (take k text) ≡ None → IsNoSlotText trap text
 no_slot_without_segment trap text k t h dot first none place past there e =
     let c = cut_slot trap text k place t h dot first past there e in
     let w = c.written in
@@ -308,7 +308,7 @@ no_slot_without_segment trap text k t h dot first none place past there e =
     both_ways (bytes_eq w.part.name (take k text)) not ((bytes_eq-Decides w.part.name (take k text)).1 c.name)
 
 -- without a slot of that number, no slot
-pub no_slot_without_number : (trap : Lists) (text : List ℕ) (k s : ℕ) (part : SegmentPart) → IsTrap trap → k < length text → get_or text k 0 ≡ 46 → has_dot (take k text) ≡ false → segment_named trap (take k text) ≡ Some s
+pub no_slot_without_number : (trap : TrapValue) (text : List ℕ) (k s : ℕ) (part : SegmentPart) → IsTrap trap → k < length text → get_or text k 0 ≡ 46 → has_dot (take k text) ≡ false → segment_named trap (take k text) ≡ Some s
     → part ≡ get_or trap.segments s part → ((j : ℕ) → j < part.slots → decimal j ≢ drop (k + 1) text) → IsNoSlotText trap text
 no_slot_without_number trap text k s part t h dot first found read none place past there e =
     let c = cut_slot trap text k place t h dot first past there e in
@@ -321,7 +321,7 @@ no_slot_without_number trap text k s part t h dot first found read none place pa
     none w.index (omega (arith, w.below, count)) c.number
 
 -- the slot of that segment and number
-pub slot_found : (trap : Lists) (text : List ℕ) (k s j : ℕ) (part : SegmentPart) → IsTrap trap → k < length text → get_or text k 0 ≡ 46 → segment_named trap (take k text) ≡ Some s
+pub slot_found : (trap : TrapValue) (text : List ℕ) (k s j : ℕ) (part : SegmentPart) → IsTrap trap → k < length text → get_or text k 0 ≡ 46 → segment_named trap (take k text) ≡ Some s
     → part ≡ get_or trap.segments s part → j < part.slots → decimal j ≡ drop (k + 1) text → IsSlotText trap (first_slot trap s + j) text
 slot_found trap text k s j part t h dot found read below number =
     let p = λ (segment : SegmentPart). bytes_eq segment.name (take k text) in
@@ -339,17 +339,17 @@ slot_found trap text k s j part t h dot found read below number =
     }
 
 -- the place of a segment's first slot, as it is read
-pub first_read : (trap : Lists) (firsts : List ℕ) (s first : ℕ) → firsts ≡ firsts_from (length trap.zones) trap.segments → s < length trap.segments → first ≡ get_or firsts s first → first ≡ first_slot trap s
+pub first_read : (trap : TrapValue) (firsts : List ℕ) (s first : ℕ) → firsts ≡ firsts_from (length trap.zones) trap.segments → s < length trap.segments → first ≡ get_or firsts s first → first ≡ first_slot trap s
 first_read trap firsts s first is h read =
     let len = ap length is ∙ length-firsts_from (length trap.zones) trap.segments in
     read ∙ get_or_default firsts s first 0 (omega (arith, len)) ∙ ap (λ fs. get_or fs s 0) is
 
 -- a slot that is found is a place of 32 bits
-pub slot_text_small : (trap : Lists) (place : ℕ) (text : List ℕ) → IsTrap trap → IsSlotText trap place text → place < 2 ^ 32
+pub slot_text_small : (trap : TrapValue) (place : ℕ) (text : List ℕ) → IsTrap trap → IsSlotText trap place text → place < 2 ^ 32
 slot_text_small trap place text t s = omega (arith, s.there, t.zones, t.slots)
 
 -- where no zone is written so, the slot is the answer
-pub slot_answer : (trap : Lists) (text : List ℕ) (answer : Option PlaceId) → IsTrap trap → zone_named trap text ≡ None → MatchOption answer (IsNoSlotText trap text) (λ place. IsSlotText trap place.0 text)
+pub slot_answer : (trap : TrapValue) (text : List ℕ) (answer : Option PlaceId) → IsTrap trap → zone_named trap text ≡ None → MatchOption answer (IsNoSlotText trap text) (λ place. IsSlotText trap place.0 text)
     → option_map (λ place. place.0) answer ≡ place_named trap text
 slot_answer trap text (Some place) t zone slot = sym (named_is trap place.0 text t slot.there slot.written)
 slot_answer trap text None t zone none =

@@ -8,7 +8,7 @@ use Rattle.qc_base.specs.declared.ids.End.{End}
 use Rattle.trap_model.specs.declared.channel.Channel.{Channel}
 use Rattle.trap_model.specs.declared.port.Link.{Link}
 use Rattle.trap_model.specs.declared.port.Link.TheVariants as links
-use Rattle.trap_model.specs.Trap.{Lists}
+use Rattle.trap_model.specs.Trap.{TrapValue}
 use Rattle.trap_model.specs.Joins.{links_of, docked, first_of, joined_slot}
 use Rattle.trap_model.specs.Channels.{channels_of, channel_at}
 use Rattle.trap_model.proofs.Known.{AreLinks, links_known}
@@ -30,15 +30,15 @@ no_find p i (x ∷ xs) e =
     ]
 
 -- no channel, no number
-pub no_number : (trap : Lists) (p : Channel → Bool) → channel_at trap (position_from p 0 (channels_of trap)) ≡ None → position_from p 0 (channels_of trap) ≡ None
+pub no_number : (trap : TrapValue) (p : Channel → Bool) → channel_at trap (position_from p 0 (channels_of trap)) ≡ None → position_from p 0 (channels_of trap) ≡ None
 no_number trap p e = no_find p 0 (channels_of trap) (sym (channel_found trap p) ∙ e)
 
-not_docked : (trap : Lists) (zone : ℕ) (e : End) (ls : List Link) → length trap.zones ≤ zone → AreLinks trap ls → first_of (docked trap zone e) ls ≡ None
+not_docked : (trap : TrapValue) (zone : ℕ) (e : End) (ls : List Link) → length trap.zones ≤ zone → AreLinks trap ls → first_of (docked trap zone e) ls ≡ None
 not_docked trap zone e [] h known = refl
 not_docked trap zone e (links.Arm s f junction ∷ ls) h known = not_docked trap zone e ls h known.1
 not_docked trap zone e (links.Dock other f s g ∷ ls) h known =
     rw (ne_eqb zone other (λ same. omega (arith, same, known.0.0))) (not_docked trap zone e ls h known.1)
 
 -- what isn't a zone is joined with nothing
-pub no_joined : (trap : Lists) (zone : ℕ) (e : End) → length trap.zones ≤ zone → joined_slot trap zone e ≡ None
+pub no_joined : (trap : TrapValue) (zone : ℕ) (e : End) → length trap.zones ≤ zone → joined_slot trap zone e ≡ None
 no_joined trap zone e h = not_docked trap zone e (links_of trap) h (links_known trap)

@@ -3,7 +3,7 @@ use Rattle.std.proofs.Common.{◌≡◌, ℕ, ◌+◌, ◌<◌, ◌≤◌, List,
 use Rattle.std.proofs.lemmas.Option.{slice_get_read, slice_get_cases}
 use Rattle.std.specs.Option.{option_map_or}
 use Rattle.trap_model.specs.declared.parts.SegmentPart.{SegmentPart}
-use Rattle.trap_model.specs.Trap.{Lists, slot_count, place_count}
+use Rattle.trap_model.specs.Trap.{TrapValue, slot_count, place_count}
 use Rattle.trap_model.specs.Joins.{firsts_from, first_slot, slots_of}
 use Rattle.trap_model.specs.Build.{IsTrap}
 
@@ -31,14 +31,14 @@ slots_read segments k part h e =
     ap (λ o. option_map_or (λ (s : SegmentPart). s.slots) o 0) at
 
 -- a segment of a trap has a slot, and all its slots are places
-pub record IsRow (trap : Lists) (segment : ℕ) : Type 0 where
+pub record IsRow (trap : TrapValue) (segment : ℕ) : Type 0 where
   pub some : 1 ≤ slots_of trap segment
   pub few : slots_of trap segment ≤ 16
   pub begins : length trap.zones ≤ first_slot trap segment
   pub within : first_slot trap segment + slots_of trap segment ≤ place_count trap
   pub small : place_count trap ≤ 288
 
-pub row_of : (trap : Lists) (segment : ℕ) → IsTrap trap → segment < length trap.segments → IsRow trap segment
+pub row_of : (trap : TrapValue) (segment : ℕ) → IsTrap trap → segment < length trap.segments → IsRow trap segment
 row_of trap segment t h =
     elim (slice_get_cases trap.segments segment).1 [
       | inl there ↦

@@ -7,7 +7,7 @@ use Rattle.std.proofs.lemmas.Option.{slice_get-get_or, slice_get_past, slice_get
 use Rattle.std.proofs.lemmas.List.FromFn.{length-map-range_with_len, get_or-map-range_with_len}
 use Rattle.trap_model.specs.declared.parts.SegmentPart.{SegmentPart}
 use Rattle.trap_model.specs.declared.port.Slot.{Slot}
-use Rattle.trap_model.specs.Trap.{Lists, slot, slots_from, slot_count, slot_at, place_count, limit_of}
+use Rattle.trap_model.specs.Trap.{TrapValue, slot, slots_from, slot_count, slot_at, place_count, limit_of}
 use Rattle.trap_model.specs.Joins.{firsts_from, first_slot, slots_of}
 use Rattle.trap_model.proofs.Rows.{row_begins}
 
@@ -91,7 +91,7 @@ locate place number (segment ∷ segments) n h =
     ]
 
 -- slot j of segment s of a trap
-pub slot_at_row : (trap : Lists) (s j : ℕ) → s < length trap.segments → j < slots_of trap s → slot_at trap (first_slot trap s + j) ≡ Some (slot s j)
+pub slot_at_row : (trap : TrapValue) (s j : ℕ) → s < length trap.segments → j < slots_of trap s → slot_at trap (first_slot trap s + j) ≡ Some (slot s j)
 slot_at_row trap s j h below =
     let begins = row_begins (length trap.zones) trap.segments s h in
     let past : ltb (first_slot trap s + j) (length trap.zones) ≡ false = le-ltb (first_slot trap s + j) (length trap.zones) (omega (arith, begins)) in
@@ -100,8 +100,8 @@ slot_at_row trap s j h below =
     cond-false (ltb (first_slot trap s + j) (length trap.zones)) None (slice_get (slots_from 0 trap.segments) n) past
     ∙ rw zeroth at (slot_in_row (length trap.zones) 0 trap.segments s j n h below (omega (arith, begins)))
 
--- the slot at a place behind the zones
-pub record IsSlotPlace (trap : Lists) (place : ℕ) : Type 0 where
+-- the slot at a place after the zones
+pub record IsSlotPlace (trap : TrapValue) (place : ℕ) : Type 0 where
   pub segment : ℕ
   pub index : ℕ
   pub there : segment < length trap.segments
@@ -109,7 +109,7 @@ pub record IsSlotPlace (trap : Lists) (place : ℕ) : Type 0 where
   pub at : first_slot trap segment + index ≡ place
   pub slot_is : slice_get (slots_from 0 trap.segments) (place - length trap.zones) ≡ Some (slot segment index)
 
-pub slot_place : (trap : Lists) (place : ℕ) → length trap.zones ≤ place → place < place_count trap → IsSlotPlace trap place
+pub slot_place : (trap : TrapValue) (place : ℕ) → length trap.zones ≤ place → place < place_count trap → IsSlotPlace trap place
 slot_place trap place past h =
     let l = locate (length trap.zones) 0 trap.segments (place - length trap.zones) (omega arith) in
     let zeroth : 0 + l.segment ≡ l.segment = omega arith in
@@ -122,18 +122,18 @@ slot_place trap place past h =
       slot_is = rw zeroth at l.slot_is;
     }
 
--- what a slot says that was read at a place behind the zones
-pub record IsSlotRead (trap : Lists) (place : ℕ) (s : Slot) : Type 0 where
+-- what a slot says that was read at a place after the zones
+pub record IsSlotRead (trap : TrapValue) (place : ℕ) (s : Slot) : Type 0 where
   pub there : s.segment < length trap.segments
   pub below : s.index < slots_of trap s.segment
   pub at : first_slot trap s.segment + s.index ≡ place
   pub is : slot_at trap place ≡ Some s
 
-pub slot_at_behind : (trap : Lists) (place : ℕ) → length trap.zones ≤ place → slot_at trap place ≡ slice_get (slots_from 0 trap.segments) (place - length trap.zones)
+pub slot_at_behind : (trap : TrapValue) (place : ℕ) → length trap.zones ≤ place → slot_at trap place ≡ slice_get (slots_from 0 trap.segments) (place - length trap.zones)
 slot_at_behind trap place past =
     cond-false (ltb place (length trap.zones)) None (slice_get (slots_from 0 trap.segments) (place - length trap.zones)) (le-ltb place (length trap.zones) past)
 
-pub slot_read : (trap : Lists) (place : ℕ) (slots : List Slot) (s : Slot) → slots ≡ slots_from 0 trap.segments → length trap.zones ≤ place → place < place_count trap
+pub slot_read : (trap : TrapValue) (place : ℕ) (slots : List Slot) (s : Slot) → slots ≡ slots_from 0 trap.segments → length trap.zones ≤ place → place < place_count trap
     → s ≡ get_or slots (place - length trap.zones) s → IsSlotRead trap place s
 slot_read trap place slots s all past h read =
     let p = slot_place trap place past h in
@@ -146,7 +146,7 @@ slot_read trap place slots s all past h read =
     }
 
 -- the limit of a slot is its segment's load
-pub limit_of_slot : (trap : Lists) (place : ℕ) (s : Slot) (part : SegmentPart) → length trap.zones ≤ place → IsSlotRead trap place s → part ≡ get_or trap.segments s.segment part → part.load ≡ limit_of trap place
+pub limit_of_slot : (trap : TrapValue) (place : ℕ) (s : Slot) (part : SegmentPart) → length trap.zones ≤ place → IsSlotRead trap place s → part ≡ get_or trap.segments s.segment part → part.load ≡ limit_of trap place
 limit_of_slot trap place s part past read is =
     let none = slice_get_past trap.zones place past in
     let there = slice_get_read trap.segments (length trap.segments) s.segment part refl read.there is in

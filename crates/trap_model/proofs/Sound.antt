@@ -10,7 +10,7 @@ use Rattle.trap_model.specs.declared.fault.Counted.{Counted}
 use Rattle.trap_model.specs.declared.fault.Counted.TheVariants.{Zones, Segments, Junctions, Slots}
 use Rattle.trap_model.specs.declared.fault.TrapFault.{TrapFault}
 use Rattle.trap_model.specs.declared.fault.TrapFault.TheVariants.{NoZone, TooMany, Double}
-use Rattle.trap_model.specs.Trap.{Lists, names_of, slot_count}
+use Rattle.trap_model.specs.Trap.{TrapValue, names_of, slot_count}
 use Rattle.trap_model.specs.Joins.{links_of, arm_at, slot_end, segment_at, segment_end}
 use Rattle.trap_model.specs.Build.{◌>>=◌, unless, none_of, few, first_double, hold_ions, are_measured, are_armed, are_arms, all_differ, is_between, segments_at, parts_pass, joins_from, build_of, AreNames, IsTrap, HasArms}
 use Rattle.trap_model.proofs.Passed.{err_ok, then_parts, unless_passes, none_passes, between, capacities_of, lengths_of, loads_of, armed_at}
@@ -21,7 +21,7 @@ few_passes : (what : Counted) (most count : ℕ) → few what most count ≡ Ok 
 few_passes what most count e = leb-true count most (unless_passes (leb count most) (TooMany what) e)
 
 -- what the tests of the parts by themselves say
-pub record PartsPass (trap : Lists) : Type 0 where
+pub record PartsPass (trap : TrapValue) : Type 0 where
   pub some : 0 < length trap.zones
   pub zones : length trap.zones ≤ 32
   pub segments : length trap.segments ≤ 256
@@ -31,7 +31,7 @@ pub record PartsPass (trap : Lists) : Type 0 where
   pub measured : are_measured trap.segments ≡ Ok tt
   pub slots : slot_count trap.segments ≤ 256
 
-pub tests_pass : (trap : Lists) → parts_pass trap ≡ Ok tt → PartsPass trap
+pub tests_pass : (trap : TrapValue) → parts_pass trap ≡ Ok tt → PartsPass trap
 unfolding parts_pass
 tests_pass trap e =
     let a = then_parts (unless (ltb 0 (length trap.zones)) NoZone) _ tt e in
@@ -68,11 +68,11 @@ arms_step : (f : ℕ → SlotEnd) (o : Option ℕ) (xs : List SlotEnd) (ys : Lis
 arms_step f None xs ys e = e
 arms_step f (Some s) xs ys e = ap suc e
 
-pub length-arms : (trap : Lists) (junction : ℕ) (ls : List Link) → length (filter_map (arm_at trap junction) ls) ≡ length (segments_at junction ls)
+pub length-arms : (trap : TrapValue) (junction : ℕ) (ls : List Link) → length (filter_map (arm_at trap junction) ls) ≡ length (segments_at junction ls)
 length-arms trap junction [] = refl
 length-arms trap junction (link ∷ ls) = arms_step (λ segment. slot_end trap segment (segment_end link)) (segment_at junction link) (filter_map (arm_at trap junction) ls) (segments_at junction ls) (length-arms trap junction ls)
 
-has_arms : (trap : Lists) (junction : ℕ) → are_arms (segments_at junction (links_of trap)) ≡ true → HasArms trap junction
+has_arms : (trap : TrapValue) (junction : ℕ) → are_arms (segments_at junction (links_of trap)) ≡ true → HasArms trap junction
 has_arms trap junction e =
     let segments = segments_at junction (links_of trap) in
     let parts = and_parts (is_between 2 4 (length segments)) (all_differ segments) e in
@@ -83,11 +83,11 @@ has_arms trap junction e =
       apart = λ i j d below h. all_differ_at segments parts.1 i j d below h;
     }
 
-pub links_of_joins : (trap : Lists) (ls : List Link) → joins_from trap 1 [] trap.joins ≡ Ok ls → ls ≡ links_of trap
+pub links_of_joins : (trap : TrapValue) (ls : List Link) → joins_from trap 1 [] trap.joins ≡ Ok ls → ls ≡ links_of trap
 links_of_joins trap ls e = links_are trap 1 [] trap.joins ls e
 
 -- the trap of parts that pass
-pub sound : (trap : Lists) (ls : List Link) → AreNames (names_of trap) → parts_pass trap ≡ Ok tt → joins_from trap 1 [] trap.joins ≡ Ok ls → are_armed ls 0 trap.junctions ≡ Ok tt → IsTrap trap
+pub sound : (trap : TrapValue) (ls : List Link) → AreNames (names_of trap) → parts_pass trap ≡ Ok tt → joins_from trap 1 [] trap.joins ≡ Ok ls → are_armed ls 0 trap.junctions ≡ Ok tt → IsTrap trap
 sound trap ls words parts joins junctions =
     let p = tests_pass trap parts in
     let same = links_of_joins trap ls joins in
@@ -109,7 +109,7 @@ sound trap ls words parts joins junctions =
           has_arms trap junction (rw (number, same) at (armed_at ls 0 trap.junctions junctions junction h));
     }
 
-ok_same : (x y : Lists) → ◌≡◌ {A = Result Lists TrapFault} (Ok x) (Ok y) → x ≡ y
+ok_same : (x y : TrapValue) → ◌≡◌ {A = Result TrapValue TrapFault} (Ok x) (Ok y) → x ≡ y
 ok_same x y e = cc
 
 bind_parts : {X Y : Type 0} (first : Result X TrapFault) (next : X → Result Y TrapFault) (y : Y) → (first >>= next) ≡ Ok y → (x : X) × (first ≡ Ok x) × (next x ≡ Ok y)
@@ -117,14 +117,14 @@ bind_parts (Ok x) next y e = (x, refl, e)
 bind_parts (Err fault) next y e = absurd (err_ok fault y e)
 
 -- what build answers are the parts
-pub record IsBuilt (trap answer : Lists) : Type 0 where
+pub record IsBuilt (trap answer : TrapValue) : Type 0 where
   pub links : List Link
   pub parts : parts_pass trap ≡ Ok tt
   pub joins : joins_from trap 1 [] trap.joins ≡ Ok links
   pub junctions : are_armed links 0 trap.junctions ≡ Ok tt
   pub same : answer ≡ trap
 
-pub built : (trap answer : Lists) → build_of trap ≡ Ok answer → IsBuilt trap answer
+pub built : (trap answer : TrapValue) → build_of trap ≡ Ok answer → IsBuilt trap answer
 unfolding build_of
 built trap answer e =
     let a = then_parts (parts_pass trap) _ answer e in
@@ -133,7 +133,7 @@ built trap answer e =
     record { links = b.0; parts = a.0; joins = b.1; junctions = c.0; same = sym (ok_same trap answer c.1) }
 
 -- and they keep what each trap keeps
-pub built_trap : (trap answer : Lists) → AreNames (names_of trap) → build_of trap ≡ Ok answer → IsTrap answer
+pub built_trap : (trap answer : TrapValue) → AreNames (names_of trap) → build_of trap ≡ Ok answer → IsTrap answer
 built_trap trap answer words e =
     let b = built trap answer e in
     rw b.same (sound trap b.links words b.parts b.joins b.junctions)

@@ -10,7 +10,7 @@ use Rattle.trap_model.specs.declared.channel.Channel.{Channel}
 use Rattle.trap_model.specs.declared.port.Link.{Link}
 use Rattle.trap_model.specs.declared.port.Link.TheVariants as links
 use Rattle.trap_model.specs.declared.port.SlotEnd.{SlotEnd}
-use Rattle.trap_model.specs.Trap.{Lists, slot_count, place_count}
+use Rattle.trap_model.specs.Trap.{TrapValue, slot_count, place_count}
 use Rattle.trap_model.specs.Joins.{links_of, slot_end, arms_of, arm_at}
 use Rattle.trap_model.specs.Channels.{dock_channels, move_channels, moves_from, cross_channels, cross, crossings_of, channels_of, AreWithin}
 use Rattle.trap_model.specs.Build.{IsTrap}
@@ -34,11 +34,11 @@ below_at n [] p k d h = absurd (omega arith)
 below_at n (c ∷ cs) p zero d h = p.0
 below_at n (c ∷ cs) p (suc k) d h = below_at n cs p.1 k d (omega arith)
 
-slot_below : (trap : Lists) (s : ℕ) (e : End) → IsTrap trap → s < length trap.segments → (slot_end trap s e).slot < place_count trap
+slot_below : (trap : TrapValue) (s : ℕ) (e : End) → IsTrap trap → s < length trap.segments → (slot_end trap s e).slot < place_count trap
 slot_below trap s A t h = let row = row_of trap s t h in omega (arith, row.some, row.within)
 slot_below trap s B t h = let row = row_of trap s t h in omega (arith, row.some, row.within)
 
-docks_below : (trap : Lists) (ls : List Link) → IsTrap trap → AreLinks trap ls → AllBelow (place_count trap) (flat_map (dock_channels trap) ls)
+docks_below : (trap : TrapValue) (ls : List Link) → IsTrap trap → AreLinks trap ls → AllBelow (place_count trap) (flat_map (dock_channels trap) ls)
 docks_below trap [] t known = tt
 docks_below trap (links.Arm s e junction ∷ ls) t known = docks_below trap ls t known.1
 docks_below trap (links.Dock zone e s f ∷ ls) t known =
@@ -67,7 +67,7 @@ cons_below : (n : ℕ) (arm : Option SlotEnd) (arms : List SlotEnd) → IfSome a
 cons_below n None arms p q = q
 cons_below n (Some arm) arms p q = (p, q)
 
-arms_below : (trap : Lists) (junction : ℕ) (ls : List Link) → IsTrap trap → AreLinks trap ls → ArmsBelow (place_count trap) (filter_map (arm_at trap junction) ls)
+arms_below : (trap : TrapValue) (junction : ℕ) (ls : List Link) → IsTrap trap → AreLinks trap ls → ArmsBelow (place_count trap) (filter_map (arm_at trap junction) ls)
 arms_below trap junction [] t known = tt
 arms_below trap junction (links.Dock zone e s f ∷ ls) t known = arms_below trap junction ls t known.1
 arms_below trap junction (links.Arm s e other ∷ ls) t known =
@@ -88,13 +88,13 @@ junction_below n junction all [] p q = tt
 junction_below n junction all (from ∷ arms) p q =
     below_append n (flat_map (cross_channels junction from) all) (flat_map (λ f. flat_map (cross_channels junction f) all) arms) (arm_below n junction from all q.0 p) (junction_below n junction all arms p q.1)
 
-crossings_below : (trap : Lists) (first count : ℕ) → IsTrap trap → AllBelow (place_count trap) (flat_map (crossings_of trap) (range_with_len first count))
+crossings_below : (trap : TrapValue) (first count : ℕ) → IsTrap trap → AllBelow (place_count trap) (flat_map (crossings_of trap) (range_with_len first count))
 crossings_below trap first zero t = tt
 crossings_below trap first (suc count) t =
     let arms = arms_below trap first (links_of trap) t (links_known trap) in
     below_append (place_count trap) (crossings_of trap first) (flat_map (crossings_of trap) (range_with_len (first + 1) count)) (junction_below (place_count trap) first (arms_of trap first) (arms_of trap first) arms arms) (crossings_below trap (first + 1) count t)
 
-pub channels_within : (trap : Lists) → IsTrap trap → AreWithin trap (channels_of trap)
+pub channels_within : (trap : TrapValue) → IsTrap trap → AreWithin trap (channels_of trap)
 channels_within trap t =
     let n = place_count trap in
     let docks = flat_map (dock_channels trap) (links_of trap) in

@@ -14,7 +14,7 @@ use Rattle.trap_model.specs.declared.fault.Counted.TheVariants.{Zones, Segments,
 use Rattle.trap_model.specs.declared.fault.TrapFault.{TrapFault}
 use Rattle.trap_model.specs.declared.fault.TrapFault.TheVariants.{NoZone, TooMany, Double, Capacity, Length, Load, Unknown, Pair, EndTaken, Arms, NoMemory}
 use Rattle.trap_model.specs.Names.{is_name}
-use Rattle.trap_model.specs.Trap.{Lists, names_of, slot_count}
+use Rattle.trap_model.specs.Trap.{TrapValue, names_of, slot_count}
 use Rattle.trap_model.specs.Joins.{same_end, port_named, link_of, link_at, links_of, ends_of, segment_at, arms_of}
 
 infixl 10 ◌>>=◌
@@ -84,7 +84,7 @@ abbrev pub is_taken : List Link → Link → Bool
 is_taken before link = list_any (λ end. list_any (same_port end) (flat_map ends_of before)) (ends_of link)
 
 -- the join of a row, after those before it
-unfoldable pub join_of : Lists → ℕ → List Link → JoinPart → Result Link TrapFault
+unfoldable pub join_of : TrapValue → ℕ → List Link → JoinPart → Result Link TrapFault
 join_of trap row before join = do
   first ← ok_or (port_named trap join.first.name join.first.end) (Unknown row)
   second ← ok_or (port_named trap join.second.name join.second.end) (Unknown row)
@@ -92,8 +92,8 @@ join_of trap row before join = do
   unless (not (is_taken before link)) (EndTaken row)
   Ok link
 
--- the joins from a row on, behind those before it
-unfoldable pub joins_from : Lists → ℕ → List Link → List JoinPart → Result (List Link) TrapFault
+-- the joins from a row on, after those before it
+unfoldable pub joins_from : TrapValue → ℕ → List Link → List JoinPart → Result (List Link) TrapFault
 joins_from trap row before [] = Ok before
 joins_from trap row before (join ∷ joins) = join_of trap row before join >>= (λ link. joins_from trap (row + 1) (before ++ link ∷ []) joins)
 
@@ -115,7 +115,7 @@ are_armed links junction [] = Ok tt
 are_armed links junction (name ∷ names) = unless (are_arms (segments_at junction links)) (Arms name) >> are_armed links (junction + 1) names
 
 -- the tests of the parts by themselves
-unfoldable pub parts_pass : Lists → Result (Unit {0}) TrapFault
+unfoldable pub parts_pass : TrapValue → Result (Unit {0}) TrapFault
 parts_pass trap = do
   unless (nat_lt 0 (length trap.zones)) NoZone
   few Zones 32 (length trap.zones)
@@ -127,7 +127,7 @@ parts_pass trap = do
   few Slots 256 (slot_count trap.segments)
 
 -- The trap of the parts, or the first test that they fail: of the parts, of the joins row by row, of the junctions.
-unfoldable pub build_of : Lists → Result Lists TrapFault
+unfoldable pub build_of : TrapValue → Result TrapValue TrapFault
 build_of trap = do
   parts_pass trap
   links ← joins_from trap 1 [] trap.joins
@@ -135,13 +135,13 @@ build_of trap = do
   Ok trap
 
 -- the arms of a junction
-pub record HasArms (trap : Lists) (junction : ℕ) : Type 0 where
+pub record HasArms (trap : TrapValue) (junction : ℕ) : Type 0 where
   pub some : 2 ≤ length (arms_of trap junction)
   pub few : length (arms_of trap junction) ≤ 4
   pub apart : AllPairs (λ segment other. segment ≢ other) (segments_at junction (links_of trap))
 
 -- What each trap keeps: its limits, its names, and how its parts are joined.
-pub record IsTrap (trap : Lists) : Type 0 where
+pub record IsTrap (trap : TrapValue) : Type 0 where
   pub some : 1 ≤ length trap.zones
   pub zones : length trap.zones ≤ 32
   pub segments : length trap.segments ≤ 256

@@ -13,7 +13,7 @@ use Rattle.trap_model.specs.declared.port.Link.{Link}
 use Rattle.trap_model.specs.declared.port.Link.TheVariants as links
 use Rattle.trap_model.specs.declared.port.Slot.{Slot}
 use Rattle.trap_model.specs.declared.port.SlotEnd.{SlotEnd}
-use Rattle.trap_model.specs.Trap.{Lists, place_count, slot_at}
+use Rattle.trap_model.specs.Trap.{TrapValue, place_count, slot_at}
 use Rattle.trap_model.specs.Joins.{same_end, links_of, slot_end, joined_slot, arms_of}
 
 abbrev pub splits : Kind → Bool
@@ -43,7 +43,7 @@ abbrev pub cross : ℕ → SlotEnd → SlotEnd → Channel
 cross junction from to = channel Cross from.slot from.end to.slot to.end (Some (record { 0 = junction }))
 
 -- for a join of a zone with a segment: split from the zone, then merge into it
-abbrev pub dock_channels : Lists → Link → List Channel
+abbrev pub dock_channels : TrapValue → Link → List Channel
 dock_channels trap (links.Dock zone e segment f) = split zone e (slot_end trap segment f) ∷ merge zone e (slot_end trap segment f) ∷ []
 dock_channels trap (links.Arm segment e junction) = []
 
@@ -61,16 +61,16 @@ abbrev pub cross_channels : ℕ → SlotEnd → SlotEnd → List Channel
 cross_channels junction from to = if from.slot == to.slot then [] else cross junction from to ∷ []
 
 -- for each ordered pair of different arms of a junction
-abbrev pub crossings_of : Lists → ℕ → List Channel
+abbrev pub crossings_of : TrapValue → ℕ → List Channel
 crossings_of trap junction = flat_map (λ from. flat_map (cross_channels junction from) (arms_of trap junction)) (arms_of trap junction)
 
 -- the channels in order: of the joins with zones, of the segments, of the junctions
-abbrev pub channels_of : Lists → List Channel
+abbrev pub channels_of : TrapValue → List Channel
 channels_of trap =
     flat_map (dock_channels trap) (links_of trap) ++ moves_from (length trap.zones) trap.segments ++ flat_map (crossings_of trap) (range_with_len 0 (length trap.junctions))
 
 -- both places of each channel are there
-abbrev pub AreWithin : Lists → List Channel → Type 0
+abbrev pub AreWithin : TrapValue → List Channel → Type 0
 AreWithin trap channels = All (λ c. (c.from.0 < place_count trap) × (c.to.0 < place_count trap)) channels
 
 abbrev pub is_split : ℕ → End → Channel → Bool
@@ -94,28 +94,28 @@ abbrev pub is_cross : ℕ → ℕ → ℕ → Channel → Bool
 is_cross junction from to c = is_through junction c && (from == c.from.0 && to == c.to.0)
 
 -- the number of the channel that splits off by that end of the zone, and of the one that merges into it
-abbrev pub split_at : Lists → ℕ → End → Option ℕ
+abbrev pub split_at : TrapValue → ℕ → End → Option ℕ
 split_at trap zone end = position_from (is_split zone end) 0 (channels_of trap)
 
-abbrev pub merge_at : Lists → ℕ → End → Option ℕ
+abbrev pub merge_at : TrapValue → ℕ → End → Option ℕ
 merge_at trap zone end = position_from (is_merge zone end) 0 (channels_of trap)
 
 -- of the one from slot to slot in a segment, and through a junction
-abbrev pub move_of : Lists → ℕ → ℕ → Option ℕ
+abbrev pub move_of : TrapValue → ℕ → ℕ → Option ℕ
 move_of trap from to = position_from (is_move from to) 0 (channels_of trap)
 
-abbrev pub cross_of : Lists → ℕ → ℕ → ℕ → Option ℕ
+abbrev pub cross_of : TrapValue → ℕ → ℕ → ℕ → Option ℕ
 cross_of trap junction from to = position_from (is_cross junction from to) 0 (channels_of trap)
 
 -- the channel of a number
-abbrev pub channel_at : Lists → Option ℕ → Option Channel
+abbrev pub channel_at : TrapValue → Option ℕ → Option Channel
 channel_at trap number = option_and_then (λ k. slice_get (channels_of trap) k) number
 
 -- the split by that end of the zone, where the end has a segment; and the merge
-abbrev pub split_channel : Lists → ℕ → End → Option Channel
+abbrev pub split_channel : TrapValue → ℕ → End → Option Channel
 split_channel trap zone end = option_map (split zone end) (joined_slot trap zone end)
 
-abbrev pub merge_channel : Lists → ℕ → End → Option Channel
+abbrev pub merge_channel : TrapValue → ℕ → End → Option Channel
 merge_channel trap zone end = option_map (merge zone end) (joined_slot trap zone end)
 
 abbrev pub same_segment : Option Slot → Option Slot → Bool
@@ -124,17 +124,28 @@ same_segment (Some slot) None = false
 same_segment None other = false
 
 -- the move between slots, where they are neighbours in one segment
-abbrev pub move_channel : Lists → ℕ → ℕ → Option Channel
+abbrev pub move_channel : TrapValue → ℕ → ℕ → Option Channel
 move_channel trap from to =
     if same_segment (slot_at trap from) (slot_at trap to)
     then (if to == from + 1 then Some (channel Move from B to A None) else if from == to + 1 then Some (channel Move from A to B None) else None)
     else None
 
 -- the arm of a junction at that slot
-abbrev pub arm_of : Lists → ℕ → ℕ → Option SlotEnd
+abbrev pub arm_of : TrapValue → ℕ → ℕ → Option SlotEnd
 arm_of trap junction slot = find (λ arm. slot == arm.slot) (arms_of trap junction)
 
 -- the crossing from slot to slot, where they are two different arms of the junction
-abbrev pub cross_channel : Lists → ℕ → ℕ → ℕ → Option Channel
+abbrev pub cross_channel : TrapValue → ℕ → ℕ → ℕ → Option Channel
 cross_channel trap junction from to =
     if from == to then None else option_and_then (λ out. option_map (cross junction out) (arm_of trap junction to)) (arm_of trap junction from)
+
+-- the number that is looked up for a channel of this kind and junction, by its ends
+abbrev pub number_by : TrapValue → Kind → Option JunctionId → Channel → Option ℕ
+number_by trap Split junction c = split_at trap c.from.0 c.from_end
+number_by trap Move junction c = move_of trap c.from.0 c.to.0
+number_by trap Cross None c = None
+number_by trap Cross (Some junction) c = cross_of trap junction.0 c.from.0 c.to.0
+number_by trap Merge junction c = merge_at trap c.to.0 c.to_end
+
+abbrev pub number_of : TrapValue → Channel → Option ℕ
+number_of trap c = number_by trap c.kind c.junction c

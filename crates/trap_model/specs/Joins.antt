@@ -12,7 +12,7 @@ use Rattle.trap_model.specs.declared.port.Port.TheVariants as ports
 use Rattle.trap_model.specs.declared.port.Link.{Link}
 use Rattle.trap_model.specs.declared.port.Link.TheVariants as links
 use Rattle.trap_model.specs.declared.port.SlotEnd.{SlotEnd}
-use Rattle.trap_model.specs.Trap.{Lists, junction_named}
+use Rattle.trap_model.specs.Trap.{TrapValue, junction_named}
 
 abbrev pub same_end : End → End → Bool
 same_end A A = true
@@ -21,14 +21,14 @@ same_end A B = false
 same_end B A = false
 
 -- the zone of that name, the segment of that name
-abbrev pub zone_named : Lists → List ℕ → Option ℕ
+abbrev pub zone_named : TrapValue → List ℕ → Option ℕ
 zone_named trap name = position_from (λ zone. bytes_eq zone.name name) 0 trap.zones
 
-abbrev pub segment_named : Lists → List ℕ → Option ℕ
+abbrev pub segment_named : TrapValue → List ℕ → Option ℕ
 segment_named trap name = position_from (λ segment. bytes_eq segment.name name) 0 trap.segments
 
 -- with an end, an end of the zone or segment of that name; without one, the junction
-abbrev pub port_named : Lists → List ℕ → Option End → Option Port
+abbrev pub port_named : TrapValue → List ℕ → Option End → Option Port
 port_named trap name (Some end) =
     option_or (option_map (λ zone. ports.Zone zone end) (zone_named trap name)) (option_map (λ segment. ports.Segment segment end) (segment_named trap name))
 port_named trap name None = option_map (λ junction. ports.Junction junction) (junction_named trap name)
@@ -46,12 +46,12 @@ link_of (ports.Junction junction) (ports.Zone zone e) = None
 link_of (ports.Junction junction) (ports.Junction other) = None
 
 -- what a join joins, where its names are known and of the right sorts
-abbrev pub link_at : Lists → JoinPart → Option Link
+abbrev pub link_at : TrapValue → JoinPart → Option Link
 link_at trap join =
     option_and_then (λ first. option_and_then (link_of first) (port_named trap join.second.name join.second.end)) (port_named trap join.first.name join.first.end)
 
 -- the joins in file order
-abbrev pub links_of : Lists → List Link
+abbrev pub links_of : TrapValue → List Link
 links_of trap = filter_map (link_at trap) trap.joins
 
 -- the ends that a join takes; a junction has none
@@ -64,20 +64,20 @@ abbrev pub firsts_from : ℕ → List SegmentPart → List ℕ
 firsts_from place [] = []
 firsts_from place (segment ∷ segments) = place ∷ firsts_from (place + segment.slots) segments
 
-abbrev pub first_slot : Lists → ℕ → ℕ
+abbrev pub first_slot : TrapValue → ℕ → ℕ
 first_slot trap segment = slice_index (firsts_from (length trap.zones) trap.segments) segment
 
 -- how many slots the segment has
-abbrev pub slots_of : Lists → ℕ → ℕ
+abbrev pub slots_of : TrapValue → ℕ → ℕ
 slots_of trap segment = option_map_or (λ part. part.slots) (slice_get trap.segments segment) 0
 
 -- a segment's end a is end a of its first slot, its end b is end b of its last
-abbrev pub slot_end : Lists → ℕ → End → SlotEnd
+abbrev pub slot_end : TrapValue → ℕ → End → SlotEnd
 slot_end trap segment A = record { slot = first_slot trap segment; end = A }
 slot_end trap segment B = record { slot = first_slot trap segment + slots_of trap segment - 1; end = B }
 
 -- the slot's end that a zone's end is joined with, where this join does it
-abbrev pub docked : Lists → ℕ → End → Link → Option SlotEnd
+abbrev pub docked : TrapValue → ℕ → End → Link → Option SlotEnd
 docked trap zone end (links.Dock other e segment f) = if zone == other && same_end end e then Some (slot_end trap segment f) else None
 docked trap zone end (links.Arm segment e junction) = None
 
@@ -87,7 +87,7 @@ first_of f [] = None
 first_of f (x ∷ xs) = option_or (f x) (first_of f xs)
 
 -- the slot's end that a zone's end is joined with
-abbrev pub joined_slot : Lists → ℕ → End → Option SlotEnd
+abbrev pub joined_slot : TrapValue → ℕ → End → Option SlotEnd
 joined_slot trap zone end = first_of (docked trap zone end) (links_of trap)
 
 -- the segment that a join has at a junction, and by which end
@@ -99,9 +99,9 @@ abbrev pub segment_end : Link → End
 segment_end (links.Dock zone e segment f) = f
 segment_end (links.Arm segment e junction) = e
 
-abbrev pub arm_at : Lists → ℕ → Link → Option SlotEnd
+abbrev pub arm_at : TrapValue → ℕ → Link → Option SlotEnd
 arm_at trap junction link = option_map (λ segment. slot_end trap segment (segment_end link)) (segment_at junction link)
 
 -- the arms of a junction as the slots' ends that it joins, in file order
-abbrev pub arms_of : Lists → ℕ → List SlotEnd
+abbrev pub arms_of : TrapValue → ℕ → List SlotEnd
 arms_of trap junction = filter_map (arm_at trap junction) (links_of trap)

@@ -9,7 +9,7 @@ use Rattle.trap_model.specs.declared.tables.Door.{Door}
 use Rattle.trap_model.specs.declared.tables.Doors.{Doors}
 use Rattle.trap_model.specs.declared.tables.Steps.{Steps}
 use Rattle.trap_model.specs.declared.tables.Passage.{Passage}
-use Rattle.trap_model.specs.Trap.{Lists, place_count, slots_from}
+use Rattle.trap_model.specs.Trap.{TrapValue, place_count, slots_from}
 use Rattle.trap_model.specs.Joins.{firsts_from}
 use Rattle.trap_model.specs.Channels.{channels_of, is_split, is_merge, is_move, is_through}
 use Rattle.trap_model.specs.Build.{IsTrap}
@@ -36,7 +36,7 @@ pub record ArePassages (channels : List Channel) (junctions : ℕ) (passages : L
   pub each : (junction : ℕ) (d : Passage) → junction < junctions → IsPassage channels junction (slice_index_or passages junction d)
 
 -- the tables are those of the trap
-pub record AreTables (trap : Lists) (slots : List Slot) (firsts : List ℕ) (channels : List Channel) (doors : List Doors) (steps : List Steps) (passages : List Passage) : Type 0 where
+pub record AreTables (trap : TrapValue) (slots : List Slot) (firsts : List ℕ) (channels : List Channel) (doors : List Doors) (steps : List Steps) (passages : List Passage) : Type 0 where
   pub sound : IsTrap trap
   pub all_slots : slots ≡ slots_from 0 trap.segments
   pub of_segments : firsts ≡ firsts_from (length trap.zones) trap.segments

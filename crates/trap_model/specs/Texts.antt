@@ -1,18 +1,18 @@
 -- Which texts are those of slots.
 use Rattle.std.specs.Prelude.{◌≡◌, ◌≢◌, ℕ, ◌<◌, ◌≤◌, ◌==◌, Bool, List, length}
 use Rattle.std.specs.List.{list_any}
-use Rattle.trap_model.specs.Trap.{Lists, place_count, place_text}
+use Rattle.trap_model.specs.Trap.{TrapValue, place_count, place_text}
 
 -- a dot stands in the text
 abbrev pub has_dot : List ℕ → Bool
 has_dot text = list_any (λ byte. byte == 46) text
 
 -- the place is a slot, and is written so
-pub record IsSlotText (trap : Lists) (place : ℕ) (text : List ℕ) : Type 0 where
+pub record IsSlotText (trap : TrapValue) (place : ℕ) (text : List ℕ) : Type 0 where
   pub behind : length trap.zones ≤ place
   pub there : place < place_count trap
   pub written : place_text trap place ≡ text
 
 -- no slot is written so
-abbrev pub IsNoSlotText : Lists → List ℕ → Type 0
+abbrev pub IsNoSlotText : TrapValue → List ℕ → Type 0
 IsNoSlotText trap text = (place : ℕ) → length trap.zones ≤ place → place < place_count trap → place_text trap place ≢ text

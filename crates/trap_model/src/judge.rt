@@ -2,7 +2,7 @@
 
 ghost use Rattle.std.specs.Prelude.{◌≡◌, ℕ, ◌+◌, ◌<◌, ◌≤◌, length, drop, [], ◌∷◌, IfOk};
 ghost use Rattle.std.specs.List.{filter_map, list_any};
-ghost use Rattle.trap_model.specs.Trap.{Lists, lists, names_of, slot_count};
+ghost use Rattle.trap_model.specs.Trap.{TrapValue, lists, names_of, slot_count};
 ghost use Rattle.trap_model.specs.Build.{Gives, Fails, is_between, few, none_of, first_double, hold_ions, are_measured, join_of, joins_from, segments_at, all_differ, are_arms, are_armed, parts_pass};
 
 use crate::fault::{Counted, TrapFault};

@@ -2,7 +2,7 @@
 
 ghost use Rattle.std.specs.Prelude.{◌≡◌, ◌+◌, ◌<◌, ◌^◌, ◌++◌, ◌∷◌, [], length, map, IfOk, OnOk, None};
 ghost use Rattle.std.specs.List.{flat_map, range_with_len};
-ghost use Rattle.trap_model.specs.Trap.{Lists, lists, slot, slots_from};
+ghost use Rattle.trap_model.specs.Trap.{TrapValue, lists, slot, slots_from};
 ghost use Rattle.trap_model.specs.Joins.{links_of, firsts_from, slot_end, arms_of};
 ghost use Rattle.trap_model.specs.Channels.{channel, split, merge, dock_channels, move_channels, moves_from, cross_channels, crossings_of, channels_of};
 ghost use Rattle.trap_model.specs.Build.{IsTrap};

@@ -2,15 +2,47 @@
 
 ghost use Rattle.std.specs.Prelude.{◌≡◌, ℕ, ◌+◌, ◌<◌, ◌≤◌, length, take, [], slice_index_or, Option};
 ghost use Rattle.std.specs.Option.{option_map};
-ghost use Rattle.std.specs.List.{list_any};
+ghost use Rattle.std.specs.List.{list_any, list_all};
 ghost use Rattle.std.specs.Str.{bytes_eq};
-ghost use Rattle.trap_model.specs.Trap.{Lists, lists, names_of, junction_named};
+ghost use Rattle.trap_model.specs.Names.{is_word as is_word_byte, begins_with_letter as begins, is_name as is_name_of};
+ghost use Rattle.trap_model.specs.Trap.{TrapValue, lists, names_of, junction_named};
 ghost use Rattle.trap_model.specs.Joins.{zone_named, segment_named, port_named};
 ghost use Rattle.trap_model.specs.Build.{first_double};
 
 use crate::parts::{EndName, TrapParts};
 use crate::port::Port;
 use qc_base::Name;
+
+// Whether it is a letter, a digit or `_`.
+fn is_word(byte: u8) -> bool
+    ensures { result ≡ is_word_byte byte }
+{
+    byte.is_ascii_alphabetic() || byte.is_ascii_digit() || byte == b'_'
+}
+
+fn are_words(bytes: &[u8]) -> bool
+    ensures { result ≡ list_all is_word_byte bytes.now }
+{
+    bytes.iter().all(|byte| is_word(*byte))
+}
+
+fn begins_with_letter(bytes: &[u8]) -> bool
+    ensures { result ≡ begins bytes.now }
+{
+    match bytes {
+        [] => false,
+        [first, ..] => first.is_ascii_alphabetic(),
+    }
+}
+
+/// Whether the bytes have the form of a name: 1 to 16 letters, digits and `_`, and a letter first. It takes no memory.
+pub fn is_name(bytes: &[u8]) -> bool
+    ensures { result ≡ is_name_of bytes.now }
+{
+    let short = bytes.len() <= 16;
+    let words = are_words(bytes);
+    begins_with_letter(bytes) && short && words
+}
 
 impl TrapParts {
     // The zone of that name.

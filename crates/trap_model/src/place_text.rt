@@ -4,7 +4,7 @@ ghost use Rattle.std.specs.Prelude.{◌≡◌, ◌≢◌, ℕ, ◌<◌, ◌++◌
 ghost use Rattle.std.specs.Option.{option_map};
 ghost use Rattle.std.specs.Fmt.{decimal};
 ghost use Rattle.trap_model.specs.Texts.{has_dot, IsSlotText, IsNoSlotText};
-ghost use Rattle.trap_model.specs.Trap.{Lists, place_text, place_named, junction_named};
+ghost use Rattle.trap_model.specs.Trap.{TrapValue, place_text, place_named, junction_named};
 
 use crate::trap::Trap;
 use itoa::Buffer;
@@ -73,7 +73,7 @@ impl Trap {
         }
     }
 
-    /// Writes the place behind what `out` has: a zone's name, or `s.k` for slot k of segment `s`.
+    /// Writes the place after what `out` has: a zone's name, or `s.k` for slot k of segment `s`.
     pub fn print_place(&self, place: PlaceId, out: &mut Vec<u8>) -> Result<(), NoMemory>
         ensures ok { OnOk result (out.new.items ≡ out.old.items ++ place_text self.now place.0) }
         ensures err { OnErr result (out.new.items ≡ out.old.items) }

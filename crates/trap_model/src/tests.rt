@@ -1,50 +1,19 @@
 //! Faulty parts, and a trap with two junctions.
 
 ghost use Rattle.std.specs.Prelude.{◌≡◌, ◌≤◌, IsTrue, length};
-ghost use Rattle.std.specs.List.{list_all};
-ghost use Rattle.trap_model.specs.Names.{is_name, is_word, begins_with_letter};
 ghost use Rattle.trap_model.specs.Trap.{lists, names_of};
 ghost use Rattle.trap_model.specs.Build.{AreNames};
 
 use crate::channel::{Channel, Kind};
 use crate::fault::{Counted, TrapFault};
-use crate::given_labels::GivenLabels;
-use crate::labels::Labels;
+use crate::labels::{GivenLabels, Labels};
+use crate::names::is_name;
 use crate::parts::{EndName, JoinPart, Need, SegmentPart, TrapParts, ZonePart};
 use crate::trap::Trap;
 use qc_base::{End, JunctionId, Name, NoMemory, PlaceId};
 use std::alloc::Global;
 use std::process::Abort;
 use std::test::Fail;
-
-fn is_word(byte: u8) -> bool
-    ensures { result ≡ is_word byte }
-{
-    byte.is_ascii_alphabetic() || byte.is_ascii_digit() || byte == b'_'
-}
-
-fn are_words(bytes: &[u8]) -> bool
-    ensures { result ≡ list_all is_word bytes.now }
-{
-    bytes.iter().all(|byte| is_word(*byte))
-}
-
-fn begins_with_letter(bytes: &[u8]) -> bool
-    ensures { result ≡ begins_with_letter bytes.now }
-{
-    match bytes {
-        [] => false,
-        [first, ..] => first.is_ascii_alphabetic(),
-    }
-}
-
-fn is_name(bytes: &[u8]) -> bool
-    ensures { result ≡ is_name bytes.now }
-{
-    let short = bytes.len() <= 16;
-    let words = are_words(bytes);
-    begins_with_letter(bytes) && short && words
-}
 
 // Whether each name has the form of one.
 fn are_names(parts: &TrapParts) -> bool

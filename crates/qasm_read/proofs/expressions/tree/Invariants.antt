@@ -2,7 +2,7 @@ use Rattle.std.proofs.Common.{◌≡◌, [], length}
 use Rattle.qasm_read.specs.Expressions.{run, wanted, there}
 use Rattle.qasm_read.proofs.expressions.tree.Given as goal
 
--- the tokens go on behind this expression as they did at first
+-- the tokens go on after this expression as they did at first
 abbrev pub invariant-loop-op : goal.invariant-loop-op
 invariant-loop-op g l =
     record {

@@ -4,7 +4,7 @@ use Rattle.qasm_read.specs.Reading.{comes, behind, with_front, repeat_at, commas
 use Rattle.qasm_read.specs.Expressions.{exp_at}
 use Rattle.qasm_read.proofs.forms.expressions.Given as goal
 
--- those so far, and those that follow behind commas
+-- those so far, and those that follow after commas
 abbrev pub invariant-loop-alloc : goal.invariant-loop-alloc
 invariant-loop-alloc g l = with_front l.exps.items (repeat_at (comes Comma) (behind Comma exp_at) l.tokens) ≡ commas_at exp_at l.fn.tokens
 

@@ -33,5 +33,6 @@ loop-count-preserved g c =
           let placed = rw (c.len.ensures, c.loop-count.bytes.ok.0, same) at told.2 in
           rw grown (front_goes_on content c.loop-count.bytes.items c.read.new.buf c.in-Ok.count (c.loop-count.invariant.front tells content is) c.in-Ok.ensures.bound placed);
       within = rw grown (omega (arith, length-append c.loop-count.bytes.items (take c.in-Ok.count c.read.new.buf), length-take c.in-Ok.count c.read.new.buf));
+      stays = c.in-Ok.ensures.stays ∙ c.loop-count.invariant.stays;
       reads = reads_on _ _ _ _ _ _ c.loop-count.invariant.reads c.in-Ok.ensures.reads;
     }

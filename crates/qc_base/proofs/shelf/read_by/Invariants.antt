@@ -9,6 +9,7 @@ invariant-loop-count g l =
     record {
       front : IsTrue (shelf.tells l.fn.shelf) → (content : List ℕ) → shelf.contents l.fn.shelf l.name ≡ Some content → l.bytes.items ≡ take (length l.bytes.items) content;
       within : length l.bytes.items ≤ l.limit;
+      stays : shelf.read_faults l.shelf ≡ shelf.read_faults l.fn.shelf;
       reads : OnlyReads shelf.tells shelf.contents shelf.read_faults l.fn.shelf l.shelf;
     }
 

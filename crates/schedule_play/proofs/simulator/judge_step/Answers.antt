@@ -1,12 +1,12 @@
 use Rattle.std.proofs.Common.{◌≡◌, ◌+◌, [], ◌∷◌, ◌++◌, length, take, ap, ◌∙◌, arith, length-append}
 use Rattle.std.proofs.lemmas.Result.{err_from_is_err_and}
-use Rattle.step_rules.specs.Setting.{Setting, setting_of}
+use Rattle.step_rules.specs.Setting.{SettingValue, setting_of}
 use Rattle.schedule_play.proofs.Stepped.{explained_step, Goes, goes_on, all_well}
 use Rattle.schedule_play.proofs.simulator.judge_step.Goals as goal
 
 pub returns-in_err-works-clause-fault : goal.returns-in_err-works-clause-fault
 returns-in_err-works-clause-fault c =
-    let setting : Setting = setting_of c.args.scene.now.trap.now c.args.scene.now.circuit.now c.args.scene.now.placement.now in
+    let setting : SettingValue = c.args.setting.now in
     let p = err_from_is_err_and c.from_residual.result c.from_residual.ensures.1 in
     rw (p.1, p.2)
     (explained_step setting c.args.past.now c.args.step.now c.loop-action.action-index (length c.deref.result.now) c.in_err-works.field-0.0 (ap length c.deref.ensures.value ∙ c.loop-action.invariant.count) c.loop-action-test.true
@@ -14,7 +14,7 @@ returns-in_err-works-clause-fault c =
 
 pub loop-action-preserved : goal.loop-action-preserved
 loop-action-preserved c =
-    let setting : Setting = setting_of c.args.scene.now.trap.now c.args.scene.now.circuit.now c.args.scene.now.placement.now in
+    let setting : SettingValue = c.args.setting.now in
     let i = c.loop-action.action-index in
     let grown : c.push.new.self.items ≡ c.loop-action.footprints.items ++ c.in_ok-works.works ∷ [] = c.in_ok-push.ensures.items in
     let goes : Goes setting c.args.past.now (take (i + 1) c.args.step.now) c.args.config.now.lists c.note.new.self.earlier.items c.note.new.self.done.items c.push.new.self.items =
@@ -26,10 +26,10 @@ loop-action-preserved c =
       stands = goes.stands;
       well = goes.well;
       earlier = c.note.ensures.earlier ∙ c.loop-action.invariant.earlier;
-      nearest = c.note.ensures.nearest ∙ c.loop-action.invariant.nearest;
+      ready = c.note.ensures.ready ∙ c.loop-action.invariant.ready;
     }
 
 pub returns-clause-well : goal.returns-clause-well
 returns-clause-well c =
-    let setting : Setting = setting_of c.args.scene.now.trap.now c.args.scene.now.circuit.now c.args.scene.now.placement.now in
+    let setting : SettingValue = c.args.setting.now in
     all_well setting c.args.past.now c.args.step.now c.loop-action.action-index c.loop-action-test.false c.loop-action.invariant.well

@@ -12,5 +12,5 @@ invariant-loop-action l = record {
   config : IsConfigOf l.trap l.config;
   earlier : l.progress.earlier.items ≡ fold marked l.fn.progress.earlier.items (take l.action-index l.step);
   done : l.progress.done ≡ l.fn.progress.done;
-  nearest : l.progress.nearest ≡ l.fn.progress.nearest;
+  ready : l.progress.ready ≡ l.fn.progress.ready;
 }

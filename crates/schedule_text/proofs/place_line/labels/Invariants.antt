@@ -1,7 +1,8 @@
 use Rattle.std.proofs.Common.{◌≡◌, ◌<◌, ◌++◌, length}
 use Rattle.std.specs.Prelude.{All}
 use Rattle.circuit_core.specs.Circuit.{qubit_count}
-use Rattle.schedule_text.specs.Words.{EndsWord, labels_text}
+use Rattle.schedule_text.specs.Text.{labels_text}
+use Rattle.schedule_text.specs.Words.{EndsWord}
 use Rattle.schedule_text.proofs.place_line.labels.Given as goal
 
 abbrev pub invariant-loop-rest : goal.invariant-loop-rest

@@ -1,5 +1,5 @@
 use Rattle.std.proofs.Common.{◌∙◌}
-use Rattle.schedule_text.specs.Words.{labels_text}
+use Rattle.schedule_text.specs.Text.{labels_text}
 use Rattle.schedule_text.proofs.WordEnds.{labels_free}
 use Rattle.schedule_text.proofs.place_line.read_place_line.Goals as goal
 

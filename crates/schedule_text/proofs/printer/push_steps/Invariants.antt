@@ -1,9 +1,7 @@
 use Rattle.std.proofs.Common.{◌≡◌, ◌+◌, ◌++◌, drop}
-use Rattle.step_rules.specs.Setting.{setting_of}
 use Rattle.schedule_text.specs.Text.{step_lines}
 use Rattle.schedule_text.proofs.printer.push_steps.Given as goal
 
 abbrev pub invariant-loop-k : goal.invariant-loop-k
 invariant-loop-k l =
-    let setting = setting_of l.trap l.circuit l.placement in
-    l.out.items ++ step_lines setting (l.k + 1) (drop l.k l.steps) ≡ l.fn.out.items ++ step_lines setting 1 l.steps
+    l.out.items ++ step_lines l.setting (l.k + 1) (drop l.k l.steps) ≡ l.fn.out.items ++ step_lines l.setting 1 l.steps

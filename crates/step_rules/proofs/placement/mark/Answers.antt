@@ -1,7 +1,7 @@
 use Rattle.std.proofs.Common.{◌≡◌, ℕ, ◌<◌, ◌++◌, List, length, get_or, take, false, subst, ◌∙◌, arith}
 use Rattle.std.proofs.lemmas.List.{length-set, take_all}
 use Rattle.qc_base.specs.declared.ids.Qubit.{Qubit}
-use Rattle.step_rules.specs.Placement.{stands}
+use Rattle.circuit_core.specs.Deciding.{stands}
 use Rattle.step_rules.specs.Flags.{AreFlags}
 use Rattle.step_rules.proofs.Reading.{repeated_later, flags_grown, flag_says}
 use Rattle.step_rules.proofs.placement.mark.Goals as goal

@@ -1,4 +1,4 @@
-use Rattle.std.proofs.Common.{◌∙◌, sym, rules}
+use Rattle.std.proofs.Common.{◌∙◌, rules}
 use Rattle.std.specs.Str.{bytes_eq}
 use Rattle.circuit_core.specs.Circuit.{qubit_count}
 use Rattle.circuit_core.specs.Label.{label_in}

@@ -4,7 +4,7 @@ use Rattle.qc_base.specs.declared.ids.Ion.{Ion}
 use Rattle.trap_model.specs.Trap.{limit_of, slot_count}
 use Rattle.ion_chain.specs.IonRow.{IonRow, ions_of, room_of}
 use Rattle.step_rules.specs.Placement.{places_from}
-use Rattle.step_rules.specs.Config.{Places, HaveRoom}
+use Rattle.step_rules.specs.Config.{ConfigValue, HaveRoom}
 use Rattle.step_rules.proofs.Ions.{length-places_from, slot_pushed, rooms_pushed, started}
 use Rattle.step_rules.proofs.config.Config.start.Goals as goal
 
@@ -38,7 +38,7 @@ pub returns-clause-config : goal.returns-clause-config
 returns-clause-config c =
     let rows : List IonRow = c.loop-place.places.items in
     let made : List (List Ion) = places_from 0 c.args.placement.now in
-    let config : Places = record { lists = map ions_of rows; rooms = map room_of rows } in
+    let config : ConfigValue = record { lists = map ions_of rows; rooms = map room_of rows } in
     let zones : ℕ = length c.args.trap.now.zones in
     let all : c.loop-place.place - zones ≡ slot_count c.args.trap.now.segments = omega (arith, c.places-place-end.ensures.places, c.loop-place.auto.place-end, c.loop-place-test.false, c.loop-place.auto.place, ap length c.zones.ensures.zones) in
     started c.args.trap.now c.args.placement.now config c.requires.zones c.requires.room (c.loop-place.invariant.lists ∙ ap (λ (n : ℕ). made ++ replicate n []) all) (length-map rows room_of ∙ sym (length-map rows ions_of)) c.loop-place.invariant.room

@@ -1,7 +1,0 @@
-use Rattle.std.proofs.Common.{◌∙◌, ap, arith}
-use Rattle.std.specs.Result.{result_ok}
-use Rattle.std.proofs.lemmas.Fmt.{parse-decimal}
-use Rattle.qccd.proofs.options.parsed.Goals as goal
-
-pub returns : goal.returns
-returns c = λ value small e. c.ok.ensures.value ∙ ap result_ok (parse-decimal 64 value c.args.word.now c.parse.result small (omega arith) e c.parse.ensures.value.0)
