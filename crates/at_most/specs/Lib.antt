@@ -1,0 +1,5 @@
+pub mod AtMost
+pub mod Pairwise
+pub mod Sequential
+pub mod Totalizer
+pub mod Conditions

@@ -1,0 +1,46 @@
+-- Whether clauses refute a goal.
+use Rattle.std.proofs.Common.{◌≡◌, ◌≢◌, ℕ, zero, suc, ◌+◌, ◌-◌, ◌<◌, ◌≤◌, List, [], ◌∷◌, inl, inr, length, get_or, take, drop, refl, sym, ◌∙◌, subst, arith}
+use Rattle.std.specs.Prelude.{◌↔◌}
+use Rattle.std.proofs.lemmas.List.{take_all, drop_more, drop_all}
+use Rattle.sat_base.specs.Literal.{Literal, negated}
+use Rattle.sat_base.specs.Clauses.{Has, clause_at}
+use Rattle.sat_base.specs.Derivation.{Refutes, AnyRefutes}
+use Rattle.sat_base.proofs.Sets.{Has-push, Has-get_or, more_literals}
+
+pub refutes_more : (goal : Literal) (clause : List Literal) (k : ℕ) (x : Literal) → k < length clause → x ≡ get_or clause k x → x ≡ negated goal → Refutes goal (take k clause) → Refutes goal (take (k + 1) clause)
+refutes_more goal clause k x within is same before literal has =
+    elim (Has-push (take k clause) x literal (subst (λ (xs : List Literal). Has xs literal) (more_literals clause k x within is) has)) [
+      | inl h ↦ before literal h
+      | inr e ↦ sym e ∙ same
+    ]
+
+pub refutes_not : (goal : Literal) (clause : List Literal) (k : ℕ) (x : Literal) → k < length clause → x ≡ get_or clause k x → x ≢ negated goal → Refutes goal clause → ⊥
+refutes_not goal clause k x within is other refutes = other (refutes x (Has-get_or clause k x within is))
+
+pub refutes_all : (goal : Literal) (clause : List Literal) (k : ℕ) → length clause ≤ k → Refutes goal (take k clause) → Refutes goal clause
+refutes_all goal clause k over refutes = subst (Refutes goal) (take_all k clause over) refutes
+
+any_cons : (goal : Literal) (clause : List Literal) (clauses : List (List Literal)) → (Refutes goal clause → ⊥) → AnyRefutes goal (clause ∷ clauses) → AnyRefutes goal clauses
+any_cons goal clause clauses other (zero, found, within, is, refutes) = absurd (other (subst (Refutes goal) (sym is) refutes))
+any_cons goal clause clauses other (suc k, found, within, is, refutes) = (k, found, omega arith, is, refutes)
+
+any_after : (goal : Literal) (clause : List Literal) (clauses : List (List Literal)) → AnyRefutes goal clauses → AnyRefutes goal (clause ∷ clauses)
+any_after goal clause clauses (k, found, within, is, refutes) = (suc k, found, omega arith, is, refutes)
+
+next : (clauses : List (List Literal)) (k : ℕ) → k < length clauses → drop k clauses ≡ clause_at clauses (k + 1) ∷ drop (k + 1) clauses
+next clauses k within = let e : k + 1 - 1 ≡ k = omega arith in rw e (drop_more clauses k [] within)
+
+pub any_goes_on : (goal : Literal) (clauses : List (List Literal)) (axioms k : ℕ) → k < length clauses → (Refutes goal (clause_at clauses (k + 1)) → ⊥) → AnyRefutes goal (drop axioms clauses) ↔ AnyRefutes goal (drop k clauses) → AnyRefutes goal (drop axioms clauses) ↔ AnyRefutes goal (drop (k + 1) clauses)
+any_goes_on goal clauses axioms k within other both =
+    let rest = next clauses k within in (
+      λ h. any_cons goal (clause_at clauses (k + 1)) (drop (k + 1) clauses) other (subst (AnyRefutes goal) rest (both.0 h)),
+      λ h. both.1 (subst (AnyRefutes goal) (sym rest) (any_after goal (clause_at clauses (k + 1)) (drop (k + 1) clauses) h)),
+    )
+
+pub any_found : (goal : Literal) (clauses : List (List Literal)) (axioms k : ℕ) → k < length clauses → Refutes goal (clause_at clauses (k + 1)) → AnyRefutes goal (drop axioms clauses) ↔ AnyRefutes goal (drop k clauses) → AnyRefutes goal (drop axioms clauses)
+any_found goal clauses axioms k within refutes both =
+    both.1 (subst (AnyRefutes goal) (sym (next clauses k within)) (0, clause_at clauses (k + 1), omega arith, refl, refutes))
+
+pub any_none : (goal : Literal) (clauses : List (List Literal)) (axioms k : ℕ) → length clauses ≤ k → AnyRefutes goal (drop axioms clauses) ↔ AnyRefutes goal (drop k clauses) → AnyRefutes goal (drop axioms clauses) → ⊥
+any_none goal clauses axioms k over both h =
+    let (i, found, within, is, refutes) = subst (AnyRefutes goal) (drop_all k clauses over) (both.0 h) in omega arith

@@ -1,0 +1,5 @@
+pub mod Faults
+pub mod HeadFaults
+pub mod Progress
+-- for private functions
+pub mod Items

@@ -1,0 +1,4 @@
+pub mod Log
+pub mod Printing
+pub mod Pieces
+pub mod Place

@@ -1,0 +1,16 @@
+//! A log of a derivation by resolution, and the text of its certificate.
+#![tactic(auto)]
+
+mod laws;
+mod line;
+mod line_id;
+mod log;
+mod printer;
+#[cfg(test)]
+mod tests;
+mod words;
+
+pub use laws::{first_lines_are_derived, first_lines_are_good};
+pub use line_id::LineId;
+pub use log::Log;
+pub use printer::Printer;

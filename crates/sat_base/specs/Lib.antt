@@ -1,0 +1,10 @@
+pub mod Literal
+pub mod Clauses
+pub mod Truth
+pub mod Valuation
+pub mod Resolution
+pub mod Derivation
+pub mod Fresh
+pub mod Certificate
+pub mod LitSet
+pub mod Pieces
