@@ -1,11 +1,15 @@
-//! How angles, operations and labels are written.
+//! How angles, operations and labels are written, and which operation has to come before which.
 
-ghost use Rattle.std.specs.Prelude.{◌≡◌, ◌≤◌, [], ◌∷◌, IfOk};
+ghost use Rattle.std.specs.Prelude.{◌≡◌, ◌<◌, ◌≤◌, [], ◌∷◌, length, All, IfOk};
 ghost use Rattle.circuit_core.specs.Angle.{nodes_of};
-ghost use Rattle.circuit_core.specs.Op.{HasSmallAngles};
+ghost use Rattle.circuit_core.specs.Circuit.{all_nodes};
+ghost use Rattle.circuit_core.specs.Op.{HasSmallAngles, IsOp};
 
-use crate::{Angle, Angles, BinOp, Circuit, Cond, FunName, Op, Qubits, Reg, push_label, push_op};
-use qc_base::{Bit, CregId, Items, Name, NoMemory, Qubit};
+use crate::{
+    Angle, Angles, BinOp, Circuit, Cond, FunName, Nearest, Op, Qubits, Reg, forced, push_label,
+    push_op, shares,
+};
+use qc_base::{Bit, CregId, Items, Name, NoMemory, OpId, Qubit};
 use sqlite_items::Boxed;
 use std::alloc::Global;
 use std::process::Abort;
@@ -204,5 +208,70 @@ fn labels_are_found_in_their_registers(rt: HostRuntime) -> Result<(), Fail> {
     for label in [b"q[2]".as_slice(), b"r[1]", b"q[00]", b"c[0]", b"q", b""] {
         assert!(rt; circuit.find(label).is_none());
     }
+    Ok(())
+}
+
+/// A gate with no turn.
+fn still(qubit: u32) -> Op
+    requires { qubit < 3 }
+    ensures op { IsOp 3 0 0 result }
+    ensures nodes { all_nodes (result ∷ []) ≡ 3 }
+{
+    Op::U {
+        theta: Angle::Pi,
+        phi: Angle::Pi,
+        lambda: Angle::Pi,
+        qubit: Qubit(qubit),
+        cond: None,
+    }
+}
+
+fn barrier(alloc: Global, first: u32, second: u32) -> Result<Op, NoMemory>
+    requires order { first < second }
+    requires below { second < 3 }
+    ensures op { IfOk result (IsOp 3 0 0) }
+    ensures nodes { IfOk result (λ op. all_nodes (op ∷ []) ≡ 0) }
+{
+    let mut qubits = Vec::new(alloc);
+    qubits.push(Qubit(first))?;
+    qubits.push(Qubit(second))?;
+    Ok(Op::Barrier {
+        qubits: Items::from_vec(qubits),
+    })
+}
+
+/// A gate on qubit 0, two barriers that lead from there to qubit 2, and a gate on it.
+fn ordered(alloc: Global) -> Result<Vec<Op>, NoMemory>
+    ensures ops { IfOk result (λ ops. All (IsOp 3 0 0) ops.items) }
+    ensures count { IfOk result (λ ops. length ops.items ≡ 4) }
+    ensures nodes { IfOk result (λ ops. all_nodes ops.items ≤ 6) }
+{
+    let mut ops = Vec::new(alloc);
+    ops.push(still(0))?;
+    ops.push(barrier(alloc, 0, 1)?)?;
+    ops.push(barrier(alloc, 1, 2)?)?;
+    ops.push(still(2))?;
+    Ok(ops)
+}
+
+fn barriers(alloc: Global) -> Result<Circuit, NoMemory>
+    ensures { IfOk result (λ circuit. length circuit.ops ≡ 4) }
+{
+    let ops = ordered(alloc)?;
+    let mut qregs = Vec::new(alloc);
+    qregs.push(reg_of(alloc, b"q", 3)?)?;
+    Ok(Circuit::new(qregs, Vec::new(alloc), ops))
+}
+
+#[test]
+fn barriers_order_gates_on_other_qubits(rt: HostRuntime) -> Result<(), Fail> {
+    let circuit = barriers(rt.alloc())?;
+    assert!(rt; forced(&circuit, OpId(0), OpId(3)));
+    assert!(rt; !forced(&circuit, OpId(3), OpId(0)));
+    assert!(rt; !shares(&circuit, OpId(0), OpId(3)));
+    assert!(rt; shares(&circuit, OpId(0), OpId(1)));
+    let nearest = Nearest::new(rt.alloc(), &circuit)?;
+    assert!(rt; nearest.of(OpId(0)).is_empty());
+    assert!(rt; nearest.of(OpId(3)) == [OpId(2)].as_slice());
     Ok(())
 }
