@@ -5,6 +5,7 @@ use Rattle.std.proofs.lemmas.Bool.{eq-eqb, ne_eqb, cases_eq, cases_lt}
 use Rattle.std.proofs.lemmas.List.Elements.{All-nil, All-cons, All-head, All-tail, All-append, All-weaker}
 use Rattle.qc_base.specs.declared.ids.Qubit.{Qubit}
 use Rattle.circuit_core.specs.Deciding.{stands}
+use Rattle.step_rules.proofs.Accepted.{no_others, at_most_once}
 use Rattle.step_rules.specs.Placement.{times}
 use Rattle.step_rules.proofs.Reading.{times-append, times_none, times_some}
 
@@ -58,20 +59,6 @@ all_once n xs all once many k h = each_once n xs once (omega (arith, total_lengt
 -- and where each stands once, there are as many
 pub counted : (n : ℕ) (xs : List Qubit) → All (λ (qubit : Qubit). qubit.0 < n) xs → ((k : ℕ) → k < n → times k xs ≡ 1) → length xs ≡ n
 counted n xs all once = sym (total_length n xs all) ∙ total_each n xs once
-
-pub no_others : (n : ℕ) (xs : List Qubit) (k : ℕ) → All (λ (qubit : Qubit). qubit.0 < n) xs → n ≤ k → times k xs ≡ 0
-no_others n [] k all h = refl
-no_others n (x ∷ xs) k all h =
-    let P : Qubit → Type 0 = λ q. q.0 < n in
-    let small : x.0 < n = All-head P x xs all in
-    let there : (x.0 == k) ≡ false = ne_eqb x.0 k (λ e. omega arith) in
-    rw there (omega (arith, no_others n xs k (All-tail P x xs all) h))
-
-pub at_most_once : (n : ℕ) (xs : List Qubit) → All (λ (qubit : Qubit). qubit.0 < n) xs → ((k : ℕ) → k < n → times k xs ≡ 1) → (k : ℕ) → times k xs ≤ 1
-at_most_once n xs all once k = elim (cases_lt k n) [
-  | inl h ↦ omega (arith, once k h)
-  | inr h ↦ omega (arith, no_others n xs k all h)
-]
 
 -- ---- those that are left
 

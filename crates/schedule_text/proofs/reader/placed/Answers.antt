@@ -1,6 +1,7 @@
 use Rattle.step_rules.specs.Placement.{IsPlacement}
 use Rattle.schedule_text.proofs.Placing.{opens_full}
-use Rattle.schedule_text.proofs.Accepted.{placement_is, placed_unless}
+use Rattle.step_rules.proofs.Accepted.{placement_is}
+use Rattle.schedule_text.proofs.Accepted.{placed_unless}
 use Rattle.schedule_text.proofs.reader.placed.Goals as goal
 
 pub unreachable-requires : goal.unreachable-requires
