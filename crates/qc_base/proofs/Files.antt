@@ -1,84 +1,149 @@
--- The files of a shelf in memory, one of which is added or replaced.
-use Rattle.std.proofs.Common.{◌≡◌, ◌≢◌, ℕ, zero, suc, ◌<◌, ◌≤◌, Bool, true, false, cond, ltb, List, [], ◌∷◌, ◌++◌, length, get_or, Some, None, refl, sym, ap, ◌∙◌, arith}
+-- The files of a shelf in memory, one of which is changed or added.
+use Rattle.std.proofs.Common.{◌≡◌, ◌≢◌, ℕ, ◌+◌, ◌<◌, ◌≤◌, Bool, true, false, cond, ltb, List, [], ◌∷◌, ◌++◌, length, get_or, Option, Some, None, max, refl, sym, ap, subst, ◌∙◌, arith, length-append}
 use Rattle.std.specs.Prelude.{position}
-use Rattle.std.specs.List.{position_or_len}
+use Rattle.std.specs.List.{position_or_len, slice_get}
+use Rattle.std.specs.Option.{option_or}
 use Rattle.std.specs.Str.{bytes_eq}
 use Rattle.std.proofs.Math.ListN.{set}
+use Rattle.std.proofs.lemmas.List.{length-set}
 use Rattle.std.proofs.lemmas.Bool.Decides.{nat_tests}
 use Rattle.std.proofs.lemmas.Slice.Eq.{bytes_eq-Decides}
 use Rattle.std.proofs.lemmas.List.Quantifiers.{position-Some}
-use Rattle.std.proofs.lemmas.List.Sums.{fails_before_first}
-use Rattle.qc_base.specs.declared.mem_shelf.MemFile.{MemFile}
-use Rattle.qc_base.specs.MemShelf.{content_of, count_with, with_content}
+use Rattle.std.proofs.lemmas.List.Folds.{find-set, find_past, find-append, find_at}
+use Rattle.std.proofs.lemmas.Option.{slice_get-get_or, slice_get_past}
+use Rattle.std.proofs.lemmas.Grind.{common_steps}
+use Rattle.qc_base.specs.MemShelf.{HeldFile, content_in, room_in, file_of, content_of, put_into, HasNoRoom, with_room, added, after_put, Changes}
+
+-- whether a file has the name
+abbrev pub named : List ℕ → HeldFile → Bool
+named name file = bytes_eq file.name name
 
 not_true : (b : Bool) → (b ≡ true → ⊥) → b ≡ false
 not_true true h = absurd (h refl)
 not_true false h = refl
 
-differs : (a b : List ℕ) → (a ≡ b → ⊥) → bytes_eq a b ≡ false
-differs a b apart = not_true (bytes_eq a b) (λ same. apart ((bytes_eq-Decides a b).0 same))
+other_name : (file : HeldFile) (name other : List ℕ) → file.name ≡ name → other ≢ name → named other file ≡ false
+other_name file name other is apart = not_true (named other file) (λ same. apart (sym ((bytes_eq-Decides file.name other).0 same) ∙ is))
 
--- ---- a content that is replaced, or added
+own_name : (file : HeldFile) (name : List ℕ) → file.name ≡ name → named name file ≡ true
+own_name file name is = (bytes_eq-Decides file.name name).1 is
 
-found_first : (b : Bool) (file : MemFile) (files : List MemFile) (name content : List ℕ) → bytes_eq file.name name ≡ b → content_of (with_content files name content) name ≡ Some content
-    → content_of (with_content (file ∷ files) name content) name ≡ Some content
-found_first true file files name content is later = simp is
-found_first false file files name content is later = simp is later
+at_first : (p : HeldFile → Bool) (files : List HeldFile) (place : ℕ) → position p files ≡ Some place → position_or_len p files ≡ place
+at_first p files place at = grind (arith, common_steps)
 
-pub content_of-with : (files : List MemFile) (name content : List ℕ) → content_of (with_content files name content) name ≡ Some content
-content_of-with [] name content = let is : bytes_eq name name ≡ true = (bytes_eq-Decides name name).1 refl in simp is
-content_of-with (file ∷ files) name content = found_first (bytes_eq file.name name) file files name content refl (content_of-with files name content)
-
-other_first : (b : Bool) (file : MemFile) (files : List MemFile) (name content other : List ℕ) → other ≢ name → bytes_eq file.name name ≡ b → content_of (with_content files name content) other ≡ content_of files other
-    → content_of (with_content (file ∷ files) name content) other ≡ content_of (file ∷ files) other
-other_first true file files name content other apart is later =
-    let no : bytes_eq file.name other ≡ false = differs file.name other (λ same. apart (sym same ∙ (bytes_eq-Decides file.name name).0 is)) in
-    simp (is, no)
-other_first false file files name content other apart is later = simp (is, later)
-
-pub others-with : (files : List MemFile) (name content other : List ℕ) → other ≢ name → content_of (with_content files name content) other ≡ content_of files other
-others-with [] name content other apart = let no : bytes_eq name other ≡ false = differs name other (λ same. apart (sym same)) in simp no
-others-with (file ∷ files) name content other apart = other_first (bytes_eq file.name name) file files name content other apart refl (others-with files name content other apart)
-
-count_first : (b : Bool) (file : MemFile) (files : List MemFile) (name content : List ℕ) → bytes_eq file.name name ≡ b → length (with_content files name content) ≡ count_with files name
-    → length (with_content (file ∷ files) name content) ≡ count_with (file ∷ files) name
-count_first true file files name content is later = simp is (omega arith)
-count_first false file files name content is later = simp is (omega (arith, later))
-
-pub count-with : (files : List MemFile) (name content : List ℕ) → length (with_content files name content) ≡ count_with files name
-count-with [] name content = refl
-count-with (file ∷ files) name content = count_first (bytes_eq file.name name) file files name content refl (count-with files name content)
-
--- ---- the place of a file
-
--- the file at the first place of that name is replaced
-replaced : (files : List MemFile) (name content : List ℕ) (place : ℕ) (d : MemFile) → place < length files → bytes_eq (get_or files place d).name name ≡ true
-    → ((k : ℕ) → k < place → bytes_eq (get_or files k d).name name ≡ false) → set files place (record { name = (get_or files place d).name; content = content }) ≡ with_content files name content
-replaced [] name content place d h is before = absurd (omega arith)
-replaced (file ∷ files) name content zero d h is before = simp is
-replaced (file ∷ files) name content (suc place) d h is before =
-    let no : bytes_eq file.name name ≡ false = before 0 (omega arith) in
-    simp no (ap (λ (l : List MemFile). file ∷ l) (replaced files name content place d (omega arith) is (λ k small. before (suc k) (omega arith))))
-
-pub replaced_at : (files : List MemFile) (name content : List ℕ) (place : ℕ) (file : MemFile) → position (λ (f : MemFile). bytes_eq f.name name) files ≡ Some place → file ≡ get_or files place file
-    → set files place (record { name = file.name; content = content }) ≡ with_content files name content
-replaced_at files name content place file e at =
-    let found = position-Some (λ (f : MemFile). bytes_eq f.name name) files place file e in
-    ap (λ (f : MemFile). set files place (record { name = f.name; content = content })) at ∙ replaced files name content place file found.0 found.1 (λ k small. (position-Some (λ (f : MemFile). bytes_eq f.name name) files place file e).2 k small)
-
--- no file has the name
 not_inside : (a b : ℕ) → cond (ltb a b) (Some a) None ≡ None → b ≤ a
 not_inside a b e = grind (arith, nat_tests)
 
-none_named : (p : MemFile → Bool) (files : List MemFile) (k : ℕ) (d : MemFile) → position p files ≡ None → k < length files → p (get_or files k d) ≡ false
-none_named p files k d none h = let past = not_inside (position_or_len p files) (length files) none in fails_before_first p files k d (omega arith)
+-- the file at the first place of that name
+pub found_at : (files : List HeldFile) (name : List ℕ) (place : ℕ) (d : HeldFile) → position (named name) files ≡ Some place → file_of files name ≡ Some (get_or files place d)
+found_at files name place d at =
+    let inside : place < length files = (position-Some (named name) files place d at).0 in
+    find_at (named name) files ∙ ap (slice_get files) (at_first (named name) files place at) ∙ slice_get-get_or files place d inside
 
-appended_to : (files : List MemFile) (name content : List ℕ) → ((k : ℕ) (d : MemFile) → k < length files → bytes_eq (get_or files k d).name name ≡ false)
-    → with_content files name content ≡ files ++ record { name = name; content = content } ∷ []
-appended_to [] name content none = refl
-appended_to (file ∷ files) name content none =
-    let no : bytes_eq file.name name ≡ false = none 0 file (omega arith) in
-    simp no (ap (λ (l : List MemFile). file ∷ l) (appended_to files name content (λ k d h. none (suc k) d (omega arith))))
+-- it has the name
+pub name_at : (files : List HeldFile) (name : List ℕ) (place : ℕ) (d : HeldFile) → position (named name) files ≡ Some place → (get_or files place d).name ≡ name
+name_at files name place d at = (bytes_eq-Decides (get_or files place d).name name).0 (position-Some (named name) files place d at).1
 
-pub appended : (files : List MemFile) (name content : List ℕ) → position (λ file. bytes_eq file.name name) files ≡ None → with_content files name content ≡ files ++ record { name = name; content = content } ∷ []
-appended files name content none = appended_to files name content (λ k d h. none_named (λ file. bytes_eq file.name name) files k d none h)
+pub found_none : (files : List HeldFile) (name : List ℕ) → position (named name) files ≡ None → file_of files name ≡ None
+found_none files name none =
+    let past : length files ≤ position_or_len (named name) files = not_inside (position_or_len (named name) files) (length files) none in
+    find_at (named name) files ∙ slice_get_past files (position_or_len (named name) files) past
+
+pub changed_at : (files : List HeldFile) (name : List ℕ) (place : ℕ) (file d : HeldFile) → position (named name) files ≡ Some place → file.name ≡ name
+    → Changes name file files (set files place file)
+changed_at files name place file d at is =
+    let before = position-Some (named name) files place d at in
+    record {
+      found = find-set (named name) files place file (sym (at_first (named name) files place at)) before.0 (own_name file name is);
+      others = λ other apart. find_past (named other) files place file d (other_name (get_or files place d) name other (name_at files name place d at) apart) (other_name file name other is apart);
+      count = rw (length-set, found_at files name place d at) (omega arith);
+    }
+
+last_is : (found : Option HeldFile) → option_or found None ≡ found
+last_is None = refl
+last_is (Some other) = refl
+
+pub changed_end : (files : List HeldFile) (name : List ℕ) (file : HeldFile) → position (named name) files ≡ None → file.name ≡ name
+    → Changes name file files (files ++ file ∷ [])
+changed_end files name file none is =
+    let own : named name file ≡ true = own_name file name is in
+    let before : file_of files name ≡ None = found_none files name none in
+    record {
+      found = find-append (named name) files (file ∷ []) ∙ simp (own, before) refl;
+      others = λ other apart.
+          let apart_is : named other file ≡ false = other_name file name other is apart in
+          find-append (named other) files (file ∷ []) ∙ simp apart_is (last_is (file_of files other));
+      count = rw before (length-append files (file ∷ []));
+    }
+
+pub changed_twice : (name : List ℕ) (first second : HeldFile) (a b c : List HeldFile) → Changes name first a b → Changes name second b c → Changes name second a c
+changed_twice name first second a b c p q = record {
+  found = q.found;
+  others = λ other apart. q.others other apart ∙ p.others other apart;
+  count = let known : length c ≡ length b + 0 = rw p.found at q.count in known ∙ omega (arith, p.count);
+}
+
+-- ---- a file that is given room, or a piece
+
+-- a put from 0 begins the content
+pub put_first : (before : Option (List ℕ)) (piece : List ℕ) → put_into before 0 piece ≡ piece
+put_first None piece = refl
+put_first (Some content) piece = refl
+
+-- the file of a name, by its place
+pub file_at : (files : List HeldFile) (name : List ℕ) (place : ℕ) (file : HeldFile) → position (named name) files ≡ Some place → file ≡ get_or files place file → file_of files name ≡ Some file
+file_at files name place file at is = found_at files name place file at ∙ ap (λ (f : HeldFile). Some f) (sym is)
+
+own_name_at : (files : List HeldFile) (name : List ℕ) (place : ℕ) (file : HeldFile) → position (named name) files ≡ Some place → file ≡ get_or files place file → file.name ≡ name
+own_name_at files name place file at is = ap (λ (f : HeldFile). f.name) is ∙ name_at files name place file at
+
+pub grown_at : (files : List HeldFile) (name : List ℕ) (place bytes : ℕ) (file after : HeldFile) → position (named name) files ≡ Some place → file ≡ get_or files place file
+    → after ≡ record file { room = max file.room bytes } → Changes name (with_room files name bytes) files (set files place after)
+grown_at files name place bytes file after at here is =
+    let own = own_name_at files name place file at here in
+    let found = file_at files name place file at here in
+    let same : after ≡ with_room files name bytes =
+    is ∙ ap (λ (n : List ℕ). record { name = n; content = file.content; room = max file.room bytes }) own
+    ∙ sym (ap (λ (f : Option HeldFile). record { name = name; content = content_in f; room = max (room_in f) bytes }) found) in
+    let P : HeldFile → Type 0 = λ f. Changes name f files (set files place after) in
+    subst P same (changed_at files name place after file at (ap (λ (f : HeldFile). f.name) is ∙ own))
+
+pub grown_end : (files : List HeldFile) (name : List ℕ) (bytes : ℕ) (file : HeldFile) → position (named name) files ≡ None
+    → file ≡ record { name = name; content = None; room = bytes } → Changes name (with_room files name bytes) files (files ++ file ∷ [])
+grown_end files name bytes file none is =
+    let room_is : bytes ≡ max 0 bytes = omega arith in
+    let same : file ≡ with_room files name bytes =
+    is ∙ ap (λ (room : ℕ). record { name = name; content = None; room = room }) room_is
+    ∙ sym (ap (λ (f : Option HeldFile). record { name = name; content = content_in f; room = max (room_in f) bytes }) (found_none files name none)) in
+    let P : HeldFile → Type 0 = λ f. Changes name f files (files ++ file ∷ []) in
+    subst P same (changed_end files name file none (ap (λ (f : HeldFile). f.name) is))
+
+pub put_at : (files : List HeldFile) (name piece : List ℕ) (place from : ℕ) (file after : HeldFile) → position (named name) files ≡ Some place → file ≡ get_or files place file
+    → after ≡ record file { content = Some (put_into file.content from piece) } → Changes name (after_put files name from piece) files (set files place after)
+put_at files name piece place from file after at here is =
+    let own = own_name_at files name place file at here in
+    let found = file_at files name place file at here in
+    let same : after ≡ after_put files name from piece =
+    is ∙ ap (λ (n : List ℕ). record { name = n; content = Some (put_into file.content from piece); room = file.room }) own
+    ∙ sym (ap (λ (f : Option HeldFile). record { name = name; content = Some (put_into (content_in f) from piece); room = room_in f }) found) in
+    let P : HeldFile → Type 0 = λ f. Changes name f files (set files place after) in
+    subst P same (changed_at files name place after file at (ap (λ (f : HeldFile). f.name) is ∙ own))
+
+-- a file that is given room for its content, and the content then
+pub added_by : (a b c : List HeldFile) (name content : List ℕ) → Changes name (with_room a name (length content)) a b → Changes name (after_put b name 0 content) b c
+    → Changes name (added a name content) a c
+added_by a b c name content first second =
+    let start : put_into (content_of b name) 0 content ≡ content = put_first (content_of b name) content in
+    let same : after_put b name 0 content ≡ added a name content =
+    ap (λ (x : List ℕ). record { name = name; content = Some x; room = room_in (file_of b name) }) start
+    ∙ ap (λ (f : Option HeldFile). record { name = name; content = Some content; room = room_in f }) first.found in
+    let P : HeldFile → Type 0 = λ f. Changes name f a c in
+    subst P same (changed_twice name (with_room a name (length content)) (after_put b name 0 content) a b c first second)
+
+-- there is room for it
+pub has_room : (a b : List HeldFile) (name content : List ℕ) → Changes name (with_room a name (length content)) a b → HasNoRoom (file_of b name) 0 content → ⊥
+has_room a b name content first past =
+    let over = rw first.found at past in
+    let start : put_into (content_of a name) 0 content ≡ content = put_first (content_of a name) content in
+    let same = ap length start in
+    omega (arith, over, same)

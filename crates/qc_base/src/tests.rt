@@ -1,8 +1,8 @@
 //! Reads and writes over memory.
 
 use crate::{
-    Failed, MemShelf, MemSink, Name, ReadFault, number_of, number_until, push_number, read_whole,
-    small_number_until, split_once, strip_prefix, write_all,
+    Failed, MemShelf, MemSink, Name, ReadFault, Shelf, number_of, number_until, push_number,
+    read_whole, small_number_until, split_once, strip_prefix, write_all,
 };
 use std::test::Fail;
 
@@ -29,6 +29,34 @@ fn a_file_added_again_is_replaced(rt: HostRuntime) -> Result<(), Fail> {
     assert!(rt; shelf.content("a") == Some(b"second".as_slice()));
     assert!(rt; shelf.content("b") == Some(b"other".as_slice()));
     assert!(rt; shelf.content("c").is_none());
+    Ok(())
+}
+
+#[test]
+fn pieces_are_put_one_after_another(rt: HostRuntime) -> Result<(), Fail> {
+    let alloc = rt.alloc();
+    let mut shelf = MemShelf::new(alloc, vec![in alloc; 2]?);
+    shelf.hold("a", 5)?;
+    assert!(rt; shelf.content("a").is_none());
+    assert!(rt; shelf.put("a", 0, b"abc") == Ok(()));
+    assert!(rt; shelf.put("a", 3, b"de") == Ok(()));
+    assert!(rt; shelf.put("a", 0, b"x") == Err(Failed));
+    assert!(rt; shelf.content("a") == Some(b"abcde".as_slice()));
+    assert!(rt; shelf.put("a", 0, b"x") == Ok(()));
+    assert!(rt; shelf.content("a") == Some(b"x".as_slice()));
+    Ok(())
+}
+
+#[test]
+fn a_put_past_the_room_fails(rt: HostRuntime) -> Result<(), Fail> {
+    let alloc = rt.alloc();
+    let mut shelf = MemShelf::new(alloc, Vec::new(alloc));
+    shelf.add("a", b"abc")?;
+    shelf.hold("a", 2)?;
+    assert!(rt; shelf.put("a", 3, b"d") == Err(Failed));
+    assert!(rt; shelf.put("b", 0, b"") == Err(Failed));
+    assert!(rt; shelf.put("a", 0, b"xyz") == Ok(()));
+    assert!(rt; shelf.content("a") == Some(b"xyz".as_slice()));
     Ok(())
 }
 
