@@ -11,13 +11,13 @@ use Rattle.qasm_tokens.specs.declared.token.Sign.TheVariants.{Comma, LeftParenth
 use Rattle.qasm_read.specs.Forms.{Form, ◌▸◌, just, sign, name, integer, commas, parameters}
 use Rattle.qasm_read.specs.Grammar.{index, argument, formals}
 use Rattle.qasm_read.specs.Reading.{State, Reader, ◌>>=◌, comes, next_at, name_at, integer_at, commas_at, parameters_at, made, closed, index_at, argument_at, formals_at}
-use Rattle.qasm_read.proofs.Readers.{at, is_sign-same, bind_some, along, or_assoc, Took, Took-then, took_one, Reads, anything, one_token, reads_name, reads_integer, reads_pair, reads_behind, reads_closed}
+use Rattle.qasm_read.proofs.Readers.{at, is_sign-same, bind_some, along, or_assoc, Took, Took-then, took_one, Reads, anything, one_token, reads_name, reads_integer, reads_pair, reads_after_sign, reads_closed}
 use Rattle.qasm_read.proofs.Lists.{without, both, Avoids, reads_commas, reads_parameters}
 
 -- ---- arguments
 
 pub reads_index : Reads index anything index_at
-reads_index = reads_behind LeftBracket (λ n. integer n ▸ sign RightBracket) anything (closed RightBracket integer_at) (reads_closed RightBracket integer anything integer_at reads_integer (λ p rest e. tt))
+reads_index = reads_after_sign LeftBracket (λ n. integer n ▸ sign RightBracket) anything (closed RightBracket integer_at) (reads_closed RightBracket integer anything integer_at reads_integer (λ p rest e. tt))
 
 pub sign_comes : (s : Sign) (large : Option ℕ) (before : Option ℕ) (front rest : List PlacedToken) → sign s large front → comes s (at (front ++ rest) before) ≡ true
 sign_comes s large before front rest t =
@@ -29,16 +29,16 @@ indexed n y = Some (record { name = n; index = Some y.0 }, y.1)
 abbrev unindexed : List ℕ → State → Option (Arg × State)
 unindexed n mid = Some (record { name = n; index = None }, mid)
 
-argument_behind : (st mid : State) (n : List ℕ) (a : Arg) (after : State) (b : Bool) → Took (name n) st mid → cond b (index_at mid >>= indexed n) (unindexed n mid) ≡ Some (a, after) → Took (argument a) st after
-argument_behind st mid n a after true t e =
+argument_after : (st mid : State) (n : List ℕ) (a : Arg) (after : State) (b : Bool) → Took (name n) st mid → cond b (index_at mid >>= indexed n) (unindexed n mid) ≡ Some (a, after) → Took (argument a) st after
+argument_after st mid n a after true t e =
     let y = bind_some (index_at mid) (indexed n) (a, after) e in
     along (λ (r : Arg × State). Took (argument r.0) st r.1) (record { name = n; index = Some y.0.0 }, y.0.1) (a, after) y.2 (Took-then (name n) (index y.0.0) st mid y.0.1 t (reads_index.found mid y.0.0 y.0.1 y.1))
-argument_behind st mid n a after false t e = along (λ (r : Arg × State). Took (argument r.0) st r.1) (record { name = n; index = None }, mid) (a, after) e t
+argument_after st mid n a after false t e = along (λ (r : Arg × State). Took (argument r.0) st r.1) (record { name = n; index = None }, mid) (a, after) e t
 
 argument_found : (st : State) (a : Arg) (after : State) → argument_at st ≡ Some (a, after) → Took (argument a) st after
 argument_found st a after e =
     let x = bind_some (name_at st) (λ x. cond (comes LeftBracket x.1) (index_at x.1 >>= indexed x.0) (unindexed x.0 x.1)) (a, after) e in
-    argument_behind st x.0.1 x.0.0 a after (comes LeftBracket x.0.1) (reads_name.found st x.0.0 x.0.1 x.1) x.2
+    argument_after st x.0.1 x.0.0 a after (comes LeftBracket x.0.1) (reads_name.found st x.0.0 x.0.1 x.1) x.2
 
 argument_only : (n : List ℕ) (i : Option ℕ) (large before : Option ℕ) (front rest : List PlacedToken) → argument (record { name = n; index = i }) large front → without LeftBracket rest → argument_at (at (front ++ rest) before) ≡ Some (record { name = n; index = i }, at rest (option_or before large))
 argument_only n None large before front rest t end = rw (reads_name.only n large before front rest t tt) (rw end refl)
@@ -98,13 +98,13 @@ reads_formals = reads_pair (parameters name) (commas name) (without LeftParenthe
 -- ---- by the first token
 
 -- what a reader took after a token, with that token
-abbrev pub Behind : Token → Form → State → State → Type 0
-Behind t form st after = (p : PlacedToken) → p.token ≡ t → Took form (at (p ∷ st.placed) st.large) after
+abbrev pub After : Token → Form → State → State → Type 0
+After t form st after = (p : PlacedToken) → p.token ≡ t → Took form (at (p ∷ st.placed) st.large) after
 
-pub behind_token : (t : Token) (B : Form) (st after : State) → Took B st after → Behind t (just (t ∷ []) ▸ B) st after
-behind_token t B st after h p e = Took-then (just (t ∷ [])) B (at (p ∷ st.placed) st.large) st after (took_one t p st.placed st.large e) h
+pub after_token : (t : Token) (B : Form) (st after : State) → Took B st after → After t (just (t ∷ []) ▸ B) st after
+after_token t B st after h p e = Took-then (just (t ∷ [])) B (at (p ∷ st.placed) st.large) st after (took_one t p st.placed st.large e) h
 
-pub by_first_found : {X : Type 0} (F : X → Form) (in_token : Token → Reader X) → ((t : Token) (st : State) (x : X) (after : State) → in_token t st ≡ Some (x, after) → Behind t (F x) st after) → (placed : List PlacedToken) (large : Option ℕ) (x : X) (after : State) → (next_at (at placed large) >>= λ y. in_token y.0 y.1) ≡ Some (x, after) → Took (F x) (at placed large) after
+pub by_first_found : {X : Type 0} (F : X → Form) (in_token : Token → Reader X) → ((t : Token) (st : State) (x : X) (after : State) → in_token t st ≡ Some (x, after) → After t (F x) st after) → (placed : List PlacedToken) (large : Option ℕ) (x : X) (after : State) → (next_at (at placed large) >>= λ y. in_token y.0 y.1) ≡ Some (x, after) → Took (F x) (at placed large) after
 by_first_found F in_token found [] large x after e = absurd cc
 by_first_found F in_token found (p ∷ rest) large x after e = found p.token (at rest large) x after e p refl
 
@@ -113,10 +113,10 @@ by_first_only t B in_token x only large before front rest h =
     let o = one_token t h.front h.first.1 in
     rw (h.parts, o.1, h.earlier, h.first.0, o.2) (only h.large_back before h.back rest h.second)
 
-pub made_found : {X Y : Type 0} (mk : X → Y) (F : Y → Form) (G : X → Form) (End : List PlacedToken → Type 0) (g : Reader X) (t : Token) → Reads G End g → ((x : X) (st after : State) → Took (G x) st after → Behind t (F (mk x)) st after) → (st : State) (y : Y) (after : State) → made mk g st ≡ Some (y, after) → Behind t (F y) st after
+pub made_found : {X Y : Type 0} (mk : X → Y) (F : Y → Form) (G : X → Form) (End : List PlacedToken → Type 0) (g : Reader X) (t : Token) → Reads G End g → ((x : X) (st after : State) → Took (G x) st after → After t (F (mk x)) st after) → (st : State) (y : Y) (after : State) → made mk g st ≡ Some (y, after) → After t (F y) st after
 made_found {X} {Y} mk F G End g t rg told st y after e =
     let x = bind_some (g st) (λ x. Some (mk x.0, x.1)) (y, after) e in
-    along (λ (r : Y × State). Behind t (F r.0) st r.1) (mk x.0.0, x.0.1) (y, after) x.2 (told x.0.0 st x.0.1 (rg.found st x.0.0 x.0.1 x.1))
+    along (λ (r : Y × State). After t (F r.0) st r.1) (mk x.0.0, x.0.1) (y, after) x.2 (told x.0.0 st x.0.1 (rg.found st x.0.0 x.0.1 x.1))
 
 pub made_only : {X Y : Type 0} (mk : X → Y) (G : X → Form) (g : Reader X) → Reads G anything g → (x : X) (large before : Option ℕ) (front rest : List PlacedToken) → G x large front → made mk g (at (front ++ rest) before) ≡ Some (mk x, at rest (option_or before large))
 made_only mk G g rg x large before front rest t = ap (λ r. r >>= λ x. Some (mk x.0, x.1)) (rg.only x large before front rest t tt)

@@ -214,10 +214,10 @@ reached_applied f e tokens r = record {
   runs = λ front spelled outer weak rest.
       let a = first_parts (word_of f) (enclosed tokens) front spelled in
       let b = first_parts (token.Sign LeftParenthesis) (tokens ++ token.Sign RightParenthesis ∷ []) a.1 a.4 in
-      let behind = b.1 ++ rest in
+      let later = b.1 ++ rest in
       let parts : front ≡ a.0 ∷ b.0 ∷ b.1 = a.2 ∙ ap (λ (ts : List PlacedToken). a.0 ∷ ts) b.2 in
       ap (λ (ts : List PlacedToken). run (ts ++ rest) (wanted outer)) parts
-      ∙ wanted_function (at (a.0 ∷ b.0 ∷ behind) None) (at (b.0 ∷ behind) None) (at behind None) (word_of f) f outer (took a.0 (b.0 ∷ behind) (word_of f) a.3) (word_starts f) (skip_front LeftParenthesis b.0 behind None b.3)
+      ∙ wanted_function (at (a.0 ∷ b.0 ∷ later) None) (at (b.0 ∷ later) None) (at later None) (word_of f) f outer (took a.0 (b.0 ∷ later) (word_of f) a.3) (word_starts f) (skip_front LeftParenthesis b.0 later None b.3)
       ∙ close_runs e tokens (Function f) refl r b.1 b.4 outer rest;
 }
 
@@ -262,16 +262,16 @@ reached_joined op a b left right ra rb =
       runs = λ front spelled outer weak rest.
           let s = split_parts left (sign_of op ∷ right) front spelled in
           let o = first_parts (sign_of op) right s.1 s.4 in
-          let behind = o.1 ++ rest in
-          let parts : front ++ rest ≡ s.0 ++ (o.0 ∷ behind) = ap (λ (ts : List PlacedToken). ts ++ rest) (s.2 ∙ ap (λ (ts : List PlacedToken). s.0 ++ ts) o.2) ∙ append_assoc s.0 (o.0 ∷ o.1) rest in
+          let later = o.1 ++ rest in
+          let parts : front ++ rest ≡ s.0 ++ (o.0 ∷ later) = ap (λ (ts : List PlacedToken). ts ++ rest) (s.2 ∙ ap (λ (ts : List PlacedToken). s.0 ++ ts) o.2) ∙ append_assoc s.0 (o.0 ∷ o.1) rest in
           let weak_left : Weak (ceiling_of (left_of op)) outer = Weak-more (ceiling_of (whole_of op)) (ceiling_of (left_of op)) outer (omega (arith, ceiling_whole op, ceiling_left op)) weak in
           let weak_op : Weak (strength_of op) outer = Weak-more (ceiling_of (whole_of op)) (strength_of op) outer (omega (arith, ceiling_whole op)) weak in
           let holds : Holding (strength_of op) ra.frames = Holding-less (strength_of op) (floor_of (left_of op)) ra.frames (omega (arith, floor_left op)) ra.holding in
           let all : (outer, image a) ≡ reduced (strength_of op) (ra.frames ++ outer) ra.tree = sym (reduced_through (strength_of op) ra.frames outer ra.tree holds ∙ reduced_stops (strength_of op) outer (put_all ra.frames ra.tree) weak_op ∙ ap (λ (t : Option Tree). (outer, t)) ra.whole_tree) in
           let within : Weak (ceiling_of (right_of op)) (f ∷ outer) = hold_right op in
           ap (λ (ts : List PlacedToken). run ts (wanted outer)) parts
-          ∙ ra.runs s.0 s.3 outer weak_left (o.0 ∷ behind)
-          ∙ there_operator (at (o.0 ∷ behind) None) (sign_of op) (at behind None) op (ra.frames ++ outer) outer ra.tree (image a) (ap operator_of o.3 ∙ sign_operates op) (took o.0 behind (sign_of op) o.3) all
+          ∙ ra.runs s.0 s.3 outer weak_left (o.0 ∷ later)
+          ∙ there_operator (at (o.0 ∷ later) None) (sign_of op) (at later None) op (ra.frames ++ outer) outer ra.tree (image a) (ap operator_of o.3 ∙ sign_operates op) (took o.0 later (sign_of op) o.3) all
           ∙ rb.runs o.1 o.4 (f ∷ outer) within rest
           ∙ moved rb.frames f outer rb.tree rest;
     }

@@ -8,8 +8,8 @@ use Rattle.qasm_tokens.specs.declared.token.Token.TheVariants as token
 use Rattle.qasm_tokens.specs.declared.token.Sign.{Sign}
 use Rattle.qasm_tokens.specs.declared.token.Sign.TheVariants.{Comma, LeftParenthesis, RightParenthesis}
 use Rattle.qasm_read.specs.Forms.{Form, ◌▸◌, just, sign, each, commas, parameters}
-use Rattle.qasm_read.specs.Reading.{State, Reader, ◌>>=◌, comes, skip_at, with_front, repeat, repeat_at, commas_at, some_in_parentheses, within, parameters_at, made, behind, closed}
-use Rattle.qasm_read.proofs.Readers.{at, is_sign-same, bind_some, along, or-none, or_assoc, Took, Took-then, Took-not_longer, Reads, anything, one_token, reads_sign, reads_behind, reads_closed, Allows}
+use Rattle.qasm_read.specs.Reading.{State, Reader, ◌>>=◌, comes, skip_at, with_front, repeat, repeat_at, commas_at, some_in_parentheses, within, parameters_at, made, after_sign, closed}
+use Rattle.qasm_read.proofs.Readers.{at, is_sign-same, bind_some, along, or-none, or_assoc, Took, Took-then, Took-not_longer, Reads, anything, one_token, reads_sign, reads_after_sign, reads_closed, Allows}
 
 -- ---- a reader takes a token at least
 
@@ -111,8 +111,8 @@ reads_repeat more G EndG End g rg short goes = record {
 
 -- ---- with commas between
 
-pub Shortens-behind : {X : Type 0} (s : Sign) (F : X → Form) (f : Reader X) → ((st : State) (x : X) (after : State) → f st ≡ Some (x, after) → Took (F x) st after) → Shortens (behind s f)
-Shortens-behind s F f found st x after e =
+pub Shortens-after_sign : {X : Type 0} (s : Sign) (F : X → Form) (f : Reader X) → ((st : State) (x : X) (after : State) → f st ≡ Some (x, after) → Took (F x) st after) → Shortens (after_sign s f)
+Shortens-after_sign s F f found st x after e =
     let u = bind_some (skip_at s st) (λ u. f u.1) (x, after) e in
     let t = (reads_sign s).found st u.0.0 u.0.1 u.1 in
     let o = one_token (token.Sign s) t.front t.spelled.1 in
@@ -141,8 +141,8 @@ goes_on F EndF allows = record {
   last = λ rest end. end.0;
 }
 
-reads_tail : {X : Type 0} (F : X → Form) (EndF : List PlacedToken → Type 0) (f : Reader X) → Reads F EndF f → Allows EndF Comma → Reads (each (λ x. sign Comma ▸ F x)) (both EndF (without Comma)) (repeat_at (comes Comma) (behind Comma f))
-reads_tail F EndF f rf allows = reads_repeat (comes Comma) (λ x. sign Comma ▸ F x) EndF (both EndF (without Comma)) (behind Comma f) (reads_behind Comma F EndF f rf) (Shortens-behind Comma F f rf.found) (goes_on F EndF allows)
+reads_tail : {X : Type 0} (F : X → Form) (EndF : List PlacedToken → Type 0) (f : Reader X) → Reads F EndF f → Allows EndF Comma → Reads (each (λ x. sign Comma ▸ F x)) (both EndF (without Comma)) (repeat_at (comes Comma) (after_sign Comma f))
+reads_tail F EndF f rf allows = reads_repeat (comes Comma) (λ x. sign Comma ▸ F x) EndF (both EndF (without Comma)) (after_sign Comma f) (reads_after_sign Comma F EndF f rf) (Shortens-after_sign Comma F f rf.found) (goes_on F EndF allows)
 
 commas_only : {X : Type 0} (F : X → Form) (EndF : List PlacedToken → Type 0) (f : Reader X) → Reads F EndF f → Allows EndF Comma → (xs : List X) (large before : Option ℕ) (front rest : List PlacedToken) → commas F xs large front → both EndF (without Comma) rest → commas_at f (at (front ++ rest) before) ≡ Some (xs, at rest (option_or before large))
 commas_only F EndF f rf allows [] large before front rest t end = absurd t
@@ -159,15 +159,15 @@ commas_front {X} F x st mid r ys after first rest e =
 pub reads_commas : {X : Type 0} (F : X → Form) (EndF : List PlacedToken → Type 0) (f : Reader X) → Reads F EndF f → Allows EndF Comma → Reads (commas F) (both EndF (without Comma)) (commas_at f)
 reads_commas F EndF f rf allows = record {
   found = λ st xs after e.
-      let x = bind_some (f st) (λ x. with_front (x.0 ∷ []) (repeat_at (comes Comma) (behind Comma f) x.1)) (xs, after) e in
-      commas_front F x.0.0 st x.0.1 (repeat_at (comes Comma) (behind Comma f) x.0.1) xs after (rf.found st x.0.0 x.0.1 x.1) (λ zs end h. (reads_tail F EndF f rf allows).found x.0.1 zs end h) x.2;
+      let x = bind_some (f st) (λ x. with_front (x.0 ∷ []) (repeat_at (comes Comma) (after_sign Comma f) x.1)) (xs, after) e in
+      commas_front F x.0.0 st x.0.1 (repeat_at (comes Comma) (after_sign Comma f) x.0.1) xs after (rf.found st x.0.0 x.0.1 x.1) (λ zs end h. (reads_tail F EndF f rf allows).found x.0.1 zs end h) x.2;
   only = λ xs large before front rest t end. commas_only F EndF f rf allows xs large before front rest t end;
 }
 
 -- ---- in parentheses
 
 pub reads_some : {X : Type 0} (F : X → Form) (EndF : List PlacedToken → Type 0) (f : Reader X) → Reads F EndF f → Allows EndF Comma → Allows (both EndF (without Comma)) RightParenthesis → Reads (λ xs. sign LeftParenthesis ▸ commas F xs ▸ sign RightParenthesis) anything (some_in_parentheses f)
-reads_some F EndF f rf allows ends = reads_behind LeftParenthesis (λ xs. commas F xs ▸ sign RightParenthesis) anything (closed RightParenthesis (commas_at f)) (reads_closed RightParenthesis (commas F) (both EndF (without Comma)) (commas_at f) (reads_commas F EndF f rf allows) ends)
+reads_some F EndF f rf allows ends = reads_after_sign LeftParenthesis (λ xs. commas F xs ▸ sign RightParenthesis) anything (closed RightParenthesis (commas_at f)) (reads_closed RightParenthesis (commas F) (both EndF (without Comma)) (commas_at f) (reads_commas F EndF f rf allows) ends)
 
 -- what comes after an opening parenthesis
 abbrev inner : {X : Type 0} → (X → Form) → List X → Form
@@ -207,24 +207,24 @@ opened : {X : Type 0} (F : X → Form) (xs : List X) (st after : State) → Took
 opened F [] st after t = record { large = t.large; front = t.front; spelled = inr t.spelled; parts = t.parts; marks = t.marks }
 opened F (x ∷ xs) st after t = t
 
-parameters_found : {X : Type 0} (F : X → Form) (f : Reader X) → Reads (inner F) anything (within f) → (st : State) (xs : List X) (after : State) (b : Bool) → cond b (behind LeftParenthesis (within f) st) (Some ([], st)) ≡ Some (xs, after) → Took (parameters F xs) st after
-parameters_found F f rf st xs after true e = opened F xs st after ((reads_behind LeftParenthesis (inner F) anything (within f) rf).found st xs after e)
+parameters_found : {X : Type 0} (F : X → Form) (f : Reader X) → Reads (inner F) anything (within f) → (st : State) (xs : List X) (after : State) (b : Bool) → cond b (after_sign LeftParenthesis (within f) st) (Some ([], st)) ≡ Some (xs, after) → Took (parameters F xs) st after
+parameters_found F f rf st xs after true e = opened F xs st after ((reads_after_sign LeftParenthesis (inner F) anything (within f) rf).found st xs after e)
 parameters_found {X} F f rf st xs after false e = along (λ (p : List X × State). Took (parameters F p.0) st p.1) ([], st) (xs, after) e (record { large = None; front = []; spelled = inl (refl, refl); parts = refl; marks = sym (or-none st.large) })
 
-behind_comes : {X : Type 0} (f : Reader X) (xs : List X) (large before : Option ℕ) (front rest : List PlacedToken) (F : X → Form) → Reads (inner F) anything (within f) → (sign LeftParenthesis ▸ inner F xs) large front → parameters_at f (at (front ++ rest) before) ≡ Some (xs, at rest (option_or before large))
-behind_comes {X} f xs large before front rest F rf t =
+after_comes : {X : Type 0} (f : Reader X) (xs : List X) (large before : Option ℕ) (front rest : List PlacedToken) (F : X → Form) → Reads (inner F) anything (within f) → (sign LeftParenthesis ▸ inner F xs) large front → parameters_at f (at (front ++ rest) before) ≡ Some (xs, at rest (option_or before large))
+after_comes {X} f xs large before front rest F rf t =
     let on : comes LeftParenthesis (at (front ++ rest) before) ≡ true = rw (t.parts, append_assoc) (sign_comes LeftParenthesis t.large_front before t.front (t.back ++ rest) t.first) in
     let st : State = at (front ++ rest) before in
-    cond-true (comes LeftParenthesis st) (behind LeftParenthesis (within f) st) (Some ([], st)) on
-    ∙ (reads_behind LeftParenthesis (inner F) anything (within f) rf).only xs large before front rest t tt
+    cond-true (comes LeftParenthesis st) (after_sign LeftParenthesis (within f) st) (Some ([], st)) on
+    ∙ (reads_after_sign LeftParenthesis (inner F) anything (within f) rf).only xs large before front rest t tt
 
 nothing_comes : {X : Type 0} (f : Reader X) (large before : Option ℕ) (front rest : List PlacedToken) → just [] large front → without LeftParenthesis rest → parameters_at f (at (front ++ rest) before) ≡ Some ([], at rest (option_or before large))
 nothing_comes f large before [] rest t end = rw (t.0, or-none before, end) refl
 nothing_comes f large before (p ∷ front) rest t end = absurd (let e = t.1 in cc)
 
 parameters_only : {X : Type 0} (F : X → Form) (f : Reader X) → Reads (inner F) anything (within f) → (xs : List X) (large before : Option ℕ) (front rest : List PlacedToken) → parameters F xs large front → without LeftParenthesis rest → parameters_at f (at (front ++ rest) before) ≡ Some (xs, at rest (option_or before large))
-parameters_only F f rf [] large before front rest t end = elim t [ inl n ↦ nothing_comes f large before front rest n end | inr p ↦ behind_comes f [] large before front rest F rf p ]
-parameters_only F f rf (x ∷ xs) large before front rest t end = behind_comes f (x ∷ xs) large before front rest F rf t
+parameters_only F f rf [] large before front rest t end = elim t [ inl n ↦ nothing_comes f large before front rest n end | inr p ↦ after_comes f [] large before front rest F rf p ]
+parameters_only F f rf (x ∷ xs) large before front rest t end = after_comes f (x ∷ xs) large before front rest F rf t
 
 pub reads_parameters : {X : Type 0} (F : X → Form) (EndF : List PlacedToken → Type 0) (f : Reader X) → Reads F EndF f → Allows EndF Comma → Allows (both EndF (without Comma)) RightParenthesis → Avoids F RightParenthesis → Reads (parameters F) (without LeftParenthesis) (parameters_at f)
 reads_parameters F EndF f rf allows ends avoids = record {

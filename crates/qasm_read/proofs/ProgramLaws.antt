@@ -24,7 +24,7 @@ use Rattle.qasm_read.specs.declared.stop.Stop.TheVariants as stop
 use Rattle.qasm_read.specs.Reading.{Gives, State, ◌>>=◌, pair, closed, opening_in, opening_at, version_in, version_at, header_at, statement_at}
 use Rattle.qasm_read.specs.Forms as forms
 use Rattle.qasm_read.specs.Expressions.{exp_at}
-use Rattle.qasm_read.specs.Program.{header, a_placed_statement, Begins, NoStatementBegins, LongestRun, verdict, AnswersBehind, Answers, UnlessMemory}
+use Rattle.qasm_read.specs.Program.{header, a_placed_statement, Begins, NoStatementBegins, LongestRun, verdict, AnswersAfter, Answers, UnlessMemory}
 use Rattle.qasm_read.proofs.Readers.{at, bind_some, some_is, along, single, reads_pair, reads_closed, Took, Reads, anything, or-none, or_assoc}
 use Rattle.qasm_read.proofs.Lists.{Shortens}
 use Rattle.qasm_read.proofs.StatementLaws.{Shortens-takes, Takes, first_takes, reads_statement}
@@ -94,8 +94,8 @@ header_found st u after fresh e =
     along (λ (q : Unit {0} × State). (q.1.large ≡ None) × Begins header None st.placed q.1.placed) (tt, x.0.1) (u, after) x.2
     (t.marks ∙ ap (λ o. option_or o t.large) fresh ∙ small, record { front = t.front; spelled = subst (λ o. header o t.front) small t.spelled; parts = t.parts })
 
-pub header_reads : (front behind : List PlacedToken) (large : Option ℕ) → header None front → header_at (at (front ++ behind) large) ≡ Some (tt, at behind (option_or large None))
-header_reads front behind large t = ap (λ (o : Option ((Unit {0} × Unit {0}) × State)). o >>= λ x. Some (tt, x.1)) (reads_header.only (tt, tt) None large front behind t tt)
+pub header_reads : (front rest : List PlacedToken) (large : Option ℕ) → header None front → header_at (at (front ++ rest) large) ≡ Some (tt, at rest (option_or large None))
+header_reads front rest large t = ap (λ (o : Option ((Unit {0} × Unit {0}) × State)). o >>= λ x. Some (tt, x.1)) (reads_header.only (tt, tt) None large front rest t tt)
 
 pub header_none : (st : State) → header_at st ≡ None → (left : List PlacedToken) → Begins header None st.placed left → ⊥
 header_none st none left b =
@@ -110,10 +110,10 @@ no_header_fault statements (Some large) left e = absurd cc
 no_header_fault statements None [] e = absurd cc
 no_header_fault statements None (p ∷ left) e = absurd cc
 
-pub answered : (placed behind : List PlacedToken) (result : Result (List Placed) QasmFault) → Begins header None placed behind → UnlessMemory (AnswersBehind behind) result → UnlessMemory (Answers placed) result
-answered placed behind (Err Header) b h = absurd (no_header_fault h.0 h.1 h.2 h.4)
-answered placed behind (Err NoMemory) b h = tt
-answered placed behind other b h = (behind, b, h)
+pub answered : (placed rest : List PlacedToken) (result : Result (List Placed) QasmFault) → Begins header None placed rest → UnlessMemory (AnswersAfter rest) result → UnlessMemory (Answers placed) result
+answered placed rest (Err Header) b h = absurd (no_header_fault h.0 h.1 h.2 h.4)
+answered placed rest (Err NoMemory) b h = tt
+answered placed rest other b h = (rest, b, h)
 
 -- ---- where no statement begins
 
@@ -189,18 +189,18 @@ ran statements st now large fresh marked t ended =
     let c = change_each cut_placed a_placed_statement change_placed statements t.large t.front t.spelled in
     (c.0, record { begins = record { front = t.front; spelled = subst (λ o. each a_placed_statement c.0 o t.front) is c.1; parts = t.parts }; ended = ended }, λ none. c.2 (is ∙ none))
 
-pub ends_well : (statements : List Placed) (st now : State) → st.large ≡ None → Took (each cut_placed statements) st now → place_of now.placed ≡ None → now.large ≡ None → AnswersBehind st.placed (Ok statements)
+pub ends_well : (statements : List Placed) (st now : State) → st.large ≡ None → Took (each cut_placed statements) st now → place_of now.placed ≡ None → now.large ≡ None → AnswersAfter st.placed (Ok statements)
 ends_well statements st now fresh t end none =
     let nil : now.placed ≡ [] = none_here now.placed end in
     let r = ran statements st now None fresh none t (end_begins now.placed nil) in
     (r.0, None, now.placed, r.1, ap (λ (ss : List Placed). Ok ss) (r.2 refl) ∙ ap (λ (ts : List PlacedToken). verdict r.0 None ts) (sym nil))
 
-pub ends_large : (statements : List Placed) (at_large : ℕ) (st now : State) → st.large ≡ None → Took (each cut_placed statements) st now → place_of now.placed ≡ None → now.large ≡ Some at_large → AnswersBehind st.placed (Err (Large at_large))
+pub ends_large : (statements : List Placed) (at_large : ℕ) (st now : State) → st.large ≡ None → Took (each cut_placed statements) st now → place_of now.placed ≡ None → now.large ≡ Some at_large → AnswersAfter st.placed (Err (Large at_large))
 ends_large statements at_large st now fresh t end marked =
     let r = ran statements st now (Some at_large) fresh marked t (end_begins now.placed (none_here now.placed end)) in
     (r.0, Some at_large, now.placed, r.1, refl)
 
-pub stops_large : (statements : List Placed) (at_large : ℕ) (st now : State) → st.large ≡ None → Took (each cut_placed statements) st now → statement_at exp_at now ≡ None → now.large ≡ Some at_large → AnswersBehind st.placed (Err (Large at_large))
+pub stops_large : (statements : List Placed) (at_large : ℕ) (st now : State) → st.large ≡ None → Took (each cut_placed statements) st now → statement_at exp_at now ≡ None → now.large ≡ Some at_large → AnswersAfter st.placed (Err (Large at_large))
 stops_large statements at_large st now fresh t none marked =
     let r = ran statements st now (Some at_large) fresh marked t (none_begins now none) in
     (r.0, Some at_large, now.placed, r.1, refl)
@@ -209,7 +209,7 @@ fault_here : (statements : List Placed) (here : ℕ) (left : List PlacedToken) �
 fault_here statements here [] e = absurd cc
 fault_here statements here (p ∷ left) e = ap (λ (n : ℕ). Err (NoStatement n)) (sym (some_is e))
 
-pub stops_here : (statements : List Placed) (here : ℕ) (st now : State) → st.large ≡ None → Took (each cut_placed statements) st now → statement_at exp_at now ≡ None → now.large ≡ None → place_of now.placed ≡ Some here → AnswersBehind st.placed (Err (NoStatement here))
+pub stops_here : (statements : List Placed) (here : ℕ) (st now : State) → st.large ≡ None → Took (each cut_placed statements) st now → statement_at exp_at now ≡ None → now.large ≡ None → place_of now.placed ≡ Some here → AnswersAfter st.placed (Err (NoStatement here))
 stops_here statements here st now fresh t none marked place =
     let r = ran statements st now None fresh marked t (none_begins now none) in
     (r.0, None, now.placed, r.1, fault_here r.0 here now.placed place)

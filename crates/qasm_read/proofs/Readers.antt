@@ -10,7 +10,7 @@ use Rattle.qasm_tokens.specs.declared.token.Token.TheVariants as token
 use Rattle.qasm_tokens.specs.declared.token.Sign.{Sign}
 use Rattle.qasm_tokens.specs.declared.token.Sign.TheVariants.{Semicolon, Comma, LeftParenthesis, RightParenthesis, LeftBracket, RightBracket, LeftBrace, RightBrace, Plus, Minus, Star, Slash, Caret, Arrow, Equals}
 use Rattle.qasm_read.specs.Forms.{Form, ◌▸◌, tokens_of, just, sign, name, integer, text}
-use Rattle.qasm_read.specs.Reading.{State, Reader, ◌>>=◌, number_of, is_sign, next_at, skip_at, name_in, name_at, integer_in, integer_at, text_in, text_at, pair, behind, closed}
+use Rattle.qasm_read.specs.Reading.{State, Reader, ◌>>=◌, number_of, is_sign, next_at, skip_at, name_in, name_at, integer_in, integer_at, text_in, text_at, pair, after_sign, closed}
 
 abbrev pub at : List PlacedToken → Option ℕ → State
 at placed large = record { placed = placed; large = large }
@@ -184,8 +184,8 @@ reads_pair {X} {Y} F G EndF End f g rf rg joins = record {
       rw (t.parts, append_assoc, t.earlier, ← or_assoc) (rw (rf.only p.0 t.large_front before t.front (t.back ++ rest) t.first (joins p.1 t.large_back t.back rest t.second end)) (rw (rg.only p.1 t.large_back (option_or before t.large_front) t.back rest t.second end) refl));
 }
 
-pub reads_behind : {X : Type 0} (s : Sign) (F : X → Form) (End : List PlacedToken → Type 0) (f : Reader X) → Reads F End f → Reads (λ x. sign s ▸ F x) End (behind s f)
-reads_behind {X} s F End f rf = record {
+pub reads_after_sign : {X : Type 0} (s : Sign) (F : X → Form) (End : List PlacedToken → Type 0) (f : Reader X) → Reads F End f → Reads (λ x. sign s ▸ F x) End (after_sign s f)
+reads_after_sign {X} s F End f rf = record {
   found = λ st x after e.
       let u = bind_some (skip_at s st) (λ u. f u.1) (x, after) e in
       Took-then (sign s) (F x) st u.0.1 after ((reads_sign s).found st u.0.0 u.0.1 u.1) (rf.found u.0.1 x after u.2);

@@ -18,10 +18,10 @@ use Rattle.qasm_tokens.specs.declared.token.Sign.{Sign}
 use Rattle.qasm_tokens.specs.declared.token.Sign.TheVariants.{Semicolon, Comma, LeftParenthesis, RightParenthesis, LeftBracket, LeftBrace, RightBrace, Arrow, Equals}
 use Rattle.qasm_read.specs.Forms.{Form, ◌▸◌, just, sign, name, integer, text, each, commas, parameters}
 use Rattle.qasm_read.specs.Grammar.{index, argument, formals, some_expressions, body_item, qop, a_statement}
-use Rattle.qasm_read.specs.Reading.{is_sign, State, Reader, ◌>>=◌, comes, next_at, name_at, integer_at, text_at, commas_at, some_in_parentheses, parameters_at, made, pair, behind, closed, index_at, argument_at, formals_at, body_item_in, body_item_at, body_at, qop_in, qop_at, statement_in, statement_at}
-use Rattle.qasm_read.proofs.Readers.{at, bind_some, along, Reads, anything, one_token, reads_name, reads_integer, reads_text, reads_pair, reads_behind, reads_closed, Allows, Joins}
+use Rattle.qasm_read.specs.Reading.{is_sign, State, Reader, ◌>>=◌, comes, next_at, name_at, integer_at, text_at, commas_at, some_in_parentheses, parameters_at, made, pair, after_sign, closed, index_at, argument_at, formals_at, body_item_in, body_item_at, body_at, qop_in, qop_at, statement_in, statement_at}
+use Rattle.qasm_read.proofs.Readers.{at, bind_some, along, Reads, anything, one_token, reads_name, reads_integer, reads_text, reads_pair, reads_after_sign, reads_closed, Allows, Joins}
 use Rattle.qasm_read.proofs.Lists.{sign_allowed, Shortens, without, Avoids, Goes, reads_repeat, reads_some, reads_parameters}
-use Rattle.qasm_read.proofs.Arguments.{reads_index, reads_argument, name_avoids, argument_avoids, commas_avoid, closed_avoids, names_end, reads_names, arguments_end, reads_arguments, reads_formals, Behind, behind_token, by_first_found, by_first_only, made_found, made_only}
+use Rattle.qasm_read.proofs.Arguments.{reads_index, reads_argument, name_avoids, argument_avoids, commas_avoid, closed_avoids, names_end, reads_names, arguments_end, reads_arguments, reads_formals, After, after_token, by_first_found, by_first_only, made_found, made_only}
 
 -- what is asked of the reader of expressions
 pub record ReadsExpressions (E : Exp → Form) (End : List PlacedToken → Type 0) (exp : Reader Exp) : Type 0 where
@@ -52,23 +52,23 @@ closed_names = reads_closed Semicolon (commas name) names_end (commas_at name_at
 item_u : {E : Exp → Form} {End : List PlacedToken → Type 0} {exp : Reader Exp} → ReadsExpressions E End exp → Reads (λ (p : List Exp × List ℕ). some_expressions E p.0 ▸ name p.1 ▸ sign Semicolon) anything (pair (some_in_parentheses exp) (closed Semicolon name_at))
 item_u {E} {End} {exp} re = reads_pair (some_expressions E) (λ n. name n ▸ sign Semicolon) anything anything (some_in_parentheses exp) (closed Semicolon name_at) (some_actuals re) closed_name (no_end (λ n. name n ▸ sign Semicolon) anything)
 
-item_cx : Reads (λ (p : List ℕ × List ℕ). name p.0 ▸ sign Comma ▸ name p.1 ▸ sign Semicolon) anything (pair name_at (behind Comma (closed Semicolon name_at)))
-item_cx = reads_pair name (λ n. sign Comma ▸ name n ▸ sign Semicolon) anything anything name_at (behind Comma (closed Semicolon name_at)) reads_name (reads_behind Comma (λ n. name n ▸ sign Semicolon) anything (closed Semicolon name_at) closed_name) (no_end (λ n. sign Comma ▸ name n ▸ sign Semicolon) anything)
+item_cx : Reads (λ (p : List ℕ × List ℕ). name p.0 ▸ sign Comma ▸ name p.1 ▸ sign Semicolon) anything (pair name_at (after_sign Comma (closed Semicolon name_at)))
+item_cx = reads_pair name (λ n. sign Comma ▸ name n ▸ sign Semicolon) anything anything name_at (after_sign Comma (closed Semicolon name_at)) reads_name (reads_after_sign Comma (λ n. name n ▸ sign Semicolon) anything (closed Semicolon name_at) closed_name) (no_end (λ n. sign Comma ▸ name n ▸ sign Semicolon) anything)
 
 item_call : {E : Exp → Form} {End : List PlacedToken → Type 0} {exp : Reader Exp} → ReadsExpressions E End exp → Reads (λ (p : List Exp × List (List ℕ)). parameters E p.0 ▸ commas name p.1 ▸ sign Semicolon) anything (pair (parameters_at exp) (closed Semicolon (commas_at name_at)))
 item_call {E} {End} {exp} re = reads_pair (parameters E) (λ ns. commas name ns ▸ sign Semicolon) (without LeftParenthesis) anything (parameters_at exp) (closed Semicolon (commas_at name_at)) (actuals re) closed_names
     (λ ns large back rest t end. closed_avoids (commas name) LeftParenthesis Semicolon (commas_avoid name LeftParenthesis (name_avoids LeftParenthesis)) ns large back rest t)
 
-item_found : {E : Exp → Form} {End : List PlacedToken → Type 0} {exp : Reader Exp} → ReadsExpressions E End exp → (t : Token) (st : State) (i : BodyItem) (after : State) → body_item_in exp t st ≡ Some (i, after) → Behind t (body_item E i) st after
-item_found {E} {End} {exp} re (token.Keyword word.U) st i after e = made_found (λ p. item.U p.0 p.1) (body_item E) (λ (p : List Exp × List ℕ). some_expressions E p.0 ▸ name p.1 ▸ sign Semicolon) anything (pair (some_in_parentheses exp) (closed Semicolon name_at)) (token.Keyword word.U) (item_u re) (λ p st after h. behind_token (token.Keyword word.U) (some_expressions E p.0 ▸ name p.1 ▸ sign Semicolon) st after h) st i after e
-item_found {E} re (token.Keyword word.Cx) st i after e = made_found (λ p. item.Cx p.0 p.1) (body_item E) (λ (p : List ℕ × List ℕ). name p.0 ▸ sign Comma ▸ name p.1 ▸ sign Semicolon) anything (pair name_at (behind Comma (closed Semicolon name_at))) (token.Keyword word.Cx) item_cx (λ p st after h. behind_token (token.Keyword word.Cx) (name p.0 ▸ sign Comma ▸ name p.1 ▸ sign Semicolon) st after h) st i after e
-item_found {E} re (token.Keyword word.Barrier) st i after e = made_found (λ ns. item.Barrier ns) (body_item E) (λ ns. commas name ns ▸ sign Semicolon) anything (closed Semicolon (commas_at name_at)) (token.Keyword word.Barrier) closed_names (λ ns st after h. behind_token (token.Keyword word.Barrier) (commas name ns ▸ sign Semicolon) st after h) st i after e
-item_found {E} {End} {exp} re (token.Identifier g) st i after e = made_found (λ p. item.Call g p.0 p.1) (body_item E) (λ (p : List Exp × List (List ℕ)). parameters E p.0 ▸ commas name p.1 ▸ sign Semicolon) anything (pair (parameters_at exp) (closed Semicolon (commas_at name_at))) (token.Identifier g) (item_call re) (λ p st after h. behind_token (token.Identifier g) (parameters E p.0 ▸ commas name p.1 ▸ sign Semicolon) st after h) st i after e
+item_found : {E : Exp → Form} {End : List PlacedToken → Type 0} {exp : Reader Exp} → ReadsExpressions E End exp → (t : Token) (st : State) (i : BodyItem) (after : State) → body_item_in exp t st ≡ Some (i, after) → After t (body_item E i) st after
+item_found {E} {End} {exp} re (token.Keyword word.U) st i after e = made_found (λ p. item.U p.0 p.1) (body_item E) (λ (p : List Exp × List ℕ). some_expressions E p.0 ▸ name p.1 ▸ sign Semicolon) anything (pair (some_in_parentheses exp) (closed Semicolon name_at)) (token.Keyword word.U) (item_u re) (λ p st after h. after_token (token.Keyword word.U) (some_expressions E p.0 ▸ name p.1 ▸ sign Semicolon) st after h) st i after e
+item_found {E} re (token.Keyword word.Cx) st i after e = made_found (λ p. item.Cx p.0 p.1) (body_item E) (λ (p : List ℕ × List ℕ). name p.0 ▸ sign Comma ▸ name p.1 ▸ sign Semicolon) anything (pair name_at (after_sign Comma (closed Semicolon name_at))) (token.Keyword word.Cx) item_cx (λ p st after h. after_token (token.Keyword word.Cx) (name p.0 ▸ sign Comma ▸ name p.1 ▸ sign Semicolon) st after h) st i after e
+item_found {E} re (token.Keyword word.Barrier) st i after e = made_found (λ ns. item.Barrier ns) (body_item E) (λ ns. commas name ns ▸ sign Semicolon) anything (closed Semicolon (commas_at name_at)) (token.Keyword word.Barrier) closed_names (λ ns st after h. after_token (token.Keyword word.Barrier) (commas name ns ▸ sign Semicolon) st after h) st i after e
+item_found {E} {End} {exp} re (token.Identifier g) st i after e = made_found (λ p. item.Call g p.0 p.1) (body_item E) (λ (p : List Exp × List (List ℕ)). parameters E p.0 ▸ commas name p.1 ▸ sign Semicolon) anything (pair (parameters_at exp) (closed Semicolon (commas_at name_at))) (token.Identifier g) (item_call re) (λ p st after h. after_token (token.Identifier g) (parameters E p.0 ▸ commas name p.1 ▸ sign Semicolon) st after h) st i after e
 item_found re other st i after e = absurd cc
 
 item_only : {E : Exp → Form} {End : List PlacedToken → Type 0} {exp : Reader Exp} → ReadsExpressions E End exp → (i : BodyItem) (large before : Option ℕ) (front rest : List PlacedToken) → body_item E i large front → anything rest → body_item_at exp (at (front ++ rest) before) ≡ Some (i, at rest (option_or before large))
 item_only {E} {End} {exp} re (item.U params arg) large before front rest t end = by_first_only (token.Keyword word.U) (some_expressions E params ▸ name arg ▸ sign Semicolon) (body_item_in exp) (item.U params arg) (λ large before front rest h. made_only (λ (p : List Exp × List ℕ). item.U p.0 p.1) (λ p. some_expressions E p.0 ▸ name p.1 ▸ sign Semicolon) (pair (some_in_parentheses exp) (closed Semicolon name_at)) (item_u re) (params, arg) large before front rest h) large before front rest t
-item_only {E} {End} {exp} re (item.Cx control target) large before front rest t end = by_first_only (token.Keyword word.Cx) (name control ▸ sign Comma ▸ name target ▸ sign Semicolon) (body_item_in exp) (item.Cx control target) (λ large before front rest h. made_only (λ (p : List ℕ × List ℕ). item.Cx p.0 p.1) (λ p. name p.0 ▸ sign Comma ▸ name p.1 ▸ sign Semicolon) (pair name_at (behind Comma (closed Semicolon name_at))) item_cx (control, target) large before front rest h) large before front rest t
+item_only {E} {End} {exp} re (item.Cx control target) large before front rest t end = by_first_only (token.Keyword word.Cx) (name control ▸ sign Comma ▸ name target ▸ sign Semicolon) (body_item_in exp) (item.Cx control target) (λ large before front rest h. made_only (λ (p : List ℕ × List ℕ). item.Cx p.0 p.1) (λ p. name p.0 ▸ sign Comma ▸ name p.1 ▸ sign Semicolon) (pair name_at (after_sign Comma (closed Semicolon name_at))) item_cx (control, target) large before front rest h) large before front rest t
 item_only {E} {End} {exp} re (item.Call gate params args) large before front rest t end = by_first_only (token.Identifier gate) (parameters E params ▸ commas name args ▸ sign Semicolon) (body_item_in exp) (item.Call gate params args) (λ large before front rest h. made_only (λ (p : List Exp × List (List ℕ)). item.Call gate p.0 p.1) (λ p. parameters E p.0 ▸ commas name p.1 ▸ sign Semicolon) (pair (parameters_at exp) (closed Semicolon (commas_at name_at))) (item_call re) (params, args) large before front rest h) large before front rest t
 item_only {E} {End} {exp} re (item.Barrier args) large before front rest t end = by_first_only (token.Keyword word.Barrier) (commas name args ▸ sign Semicolon) (body_item_in exp) (item.Barrier args) (λ large before front rest h. made_only (λ (ns : List (List ℕ)). item.Barrier ns) (λ ns. commas name ns ▸ sign Semicolon) (closed Semicolon (commas_at name_at)) closed_names args large before front rest h) large before front rest t
 
@@ -87,9 +87,9 @@ closed_arguments : Reads (λ as_. commas argument as_ ▸ sign Semicolon) anythi
 closed_arguments = reads_closed Semicolon (commas argument) arguments_end (commas_at argument_at) reads_arguments (λ p rest e. (rw e refl, rw e refl))
 
 -- an argument, that sign, and another argument
-two_arguments : (s : Sign) → Allows (without LeftBracket) s → Reads (λ (p : Arg × Arg). argument p.0 ▸ sign s ▸ argument p.1 ▸ sign Semicolon) anything (pair argument_at (behind s (closed Semicolon argument_at)))
-two_arguments s allows = reads_pair argument (λ a. sign s ▸ argument a ▸ sign Semicolon) (without LeftBracket) anything argument_at (behind s (closed Semicolon argument_at)) reads_argument
-    (reads_behind s (λ a. argument a ▸ sign Semicolon) anything (closed Semicolon argument_at) closed_argument)
+two_arguments : (s : Sign) → Allows (without LeftBracket) s → Reads (λ (p : Arg × Arg). argument p.0 ▸ sign s ▸ argument p.1 ▸ sign Semicolon) anything (pair argument_at (after_sign s (closed Semicolon argument_at)))
+two_arguments s allows = reads_pair argument (λ a. sign s ▸ argument a ▸ sign Semicolon) (without LeftBracket) anything argument_at (after_sign s (closed Semicolon argument_at)) reads_argument
+    (reads_after_sign s (λ a. argument a ▸ sign Semicolon) anything (closed Semicolon argument_at) closed_argument)
     (λ a large back rest t end. rw (t.parts, append_assoc) (sign_allowed (without LeftBracket) s allows t.large_front t.front (t.back ++ rest) t.first))
 
 qop_u : {E : Exp → Form} {End : List PlacedToken → Type 0} {exp : Reader Exp} → ReadsExpressions E End exp → Reads (λ (p : List Exp × Arg). some_expressions E p.0 ▸ argument p.1 ▸ sign Semicolon) anything (pair (some_in_parentheses exp) (closed Semicolon argument_at))
@@ -99,18 +99,18 @@ qop_call : {E : Exp → Form} {End : List PlacedToken → Type 0} {exp : Reader 
 qop_call {E} {End} {exp} re = reads_pair (parameters E) (λ xs. commas argument xs ▸ sign Semicolon) (without LeftParenthesis) anything (parameters_at exp) (closed Semicolon (commas_at argument_at)) (actuals re) closed_arguments
     (λ xs large back rest t end. closed_avoids (commas argument) LeftParenthesis Semicolon (commas_avoid argument LeftParenthesis (argument_avoids LeftParenthesis)) xs large back rest t)
 
-qop_found : {E : Exp → Form} {End : List PlacedToken → Type 0} {exp : Reader Exp} → ReadsExpressions E End exp → (t : Token) (st : State) (i : Qop) (after : State) → qop_in exp t st ≡ Some (i, after) → Behind t (qop E i) st after
-qop_found {E} {End} {exp} re (token.Keyword word.U) st i after e = made_found (λ p. operation.U p.0 p.1) (qop E) (λ (p : List Exp × Arg). some_expressions E p.0 ▸ argument p.1 ▸ sign Semicolon) anything (pair (some_in_parentheses exp) (closed Semicolon argument_at)) (token.Keyword word.U) (qop_u re) (λ p st after h. behind_token (token.Keyword word.U) (some_expressions E p.0 ▸ argument p.1 ▸ sign Semicolon) st after h) st i after e
-qop_found {E} {End} {exp} re (token.Keyword word.Cx) st i after e = made_found (λ p. operation.Cx p.0 p.1) (qop E) (λ (p : Arg × Arg). argument p.0 ▸ sign Comma ▸ argument p.1 ▸ sign Semicolon) anything (pair argument_at (behind Comma (closed Semicolon argument_at))) (token.Keyword word.Cx) (two_arguments Comma (λ p rest e. rw e refl)) (λ p st after h. behind_token (token.Keyword word.Cx) (argument p.0 ▸ sign Comma ▸ argument p.1 ▸ sign Semicolon) st after h) st i after e
-qop_found {E} {End} {exp} re (token.Keyword word.Measure) st i after e = made_found (λ p. operation.Measure p.0 p.1) (qop E) (λ (p : Arg × Arg). argument p.0 ▸ sign Arrow ▸ argument p.1 ▸ sign Semicolon) anything (pair argument_at (behind Arrow (closed Semicolon argument_at))) (token.Keyword word.Measure) (two_arguments Arrow (λ p rest e. rw e refl)) (λ p st after h. behind_token (token.Keyword word.Measure) (argument p.0 ▸ sign Arrow ▸ argument p.1 ▸ sign Semicolon) st after h) st i after e
-qop_found {E} {End} {exp} re (token.Keyword word.Reset) st i after e = made_found (λ a. operation.Reset a) (qop E) (λ (a : Arg). argument a ▸ sign Semicolon) anything (closed Semicolon argument_at) (token.Keyword word.Reset) closed_argument (λ a st after h. behind_token (token.Keyword word.Reset) (argument a ▸ sign Semicolon) st after h) st i after e
-qop_found {E} {End} {exp} re (token.Identifier gate) st i after e = made_found (λ p. operation.Call gate p.0 p.1) (qop E) (λ (p : List Exp × List Arg). parameters E p.0 ▸ commas argument p.1 ▸ sign Semicolon) anything (pair (parameters_at exp) (closed Semicolon (commas_at argument_at))) (token.Identifier gate) (qop_call re) (λ p st after h. behind_token (token.Identifier gate) (parameters E p.0 ▸ commas argument p.1 ▸ sign Semicolon) st after h) st i after e
+qop_found : {E : Exp → Form} {End : List PlacedToken → Type 0} {exp : Reader Exp} → ReadsExpressions E End exp → (t : Token) (st : State) (i : Qop) (after : State) → qop_in exp t st ≡ Some (i, after) → After t (qop E i) st after
+qop_found {E} {End} {exp} re (token.Keyword word.U) st i after e = made_found (λ p. operation.U p.0 p.1) (qop E) (λ (p : List Exp × Arg). some_expressions E p.0 ▸ argument p.1 ▸ sign Semicolon) anything (pair (some_in_parentheses exp) (closed Semicolon argument_at)) (token.Keyword word.U) (qop_u re) (λ p st after h. after_token (token.Keyword word.U) (some_expressions E p.0 ▸ argument p.1 ▸ sign Semicolon) st after h) st i after e
+qop_found {E} {End} {exp} re (token.Keyword word.Cx) st i after e = made_found (λ p. operation.Cx p.0 p.1) (qop E) (λ (p : Arg × Arg). argument p.0 ▸ sign Comma ▸ argument p.1 ▸ sign Semicolon) anything (pair argument_at (after_sign Comma (closed Semicolon argument_at))) (token.Keyword word.Cx) (two_arguments Comma (λ p rest e. rw e refl)) (λ p st after h. after_token (token.Keyword word.Cx) (argument p.0 ▸ sign Comma ▸ argument p.1 ▸ sign Semicolon) st after h) st i after e
+qop_found {E} {End} {exp} re (token.Keyword word.Measure) st i after e = made_found (λ p. operation.Measure p.0 p.1) (qop E) (λ (p : Arg × Arg). argument p.0 ▸ sign Arrow ▸ argument p.1 ▸ sign Semicolon) anything (pair argument_at (after_sign Arrow (closed Semicolon argument_at))) (token.Keyword word.Measure) (two_arguments Arrow (λ p rest e. rw e refl)) (λ p st after h. after_token (token.Keyword word.Measure) (argument p.0 ▸ sign Arrow ▸ argument p.1 ▸ sign Semicolon) st after h) st i after e
+qop_found {E} {End} {exp} re (token.Keyword word.Reset) st i after e = made_found (λ a. operation.Reset a) (qop E) (λ (a : Arg). argument a ▸ sign Semicolon) anything (closed Semicolon argument_at) (token.Keyword word.Reset) closed_argument (λ a st after h. after_token (token.Keyword word.Reset) (argument a ▸ sign Semicolon) st after h) st i after e
+qop_found {E} {End} {exp} re (token.Identifier gate) st i after e = made_found (λ p. operation.Call gate p.0 p.1) (qop E) (λ (p : List Exp × List Arg). parameters E p.0 ▸ commas argument p.1 ▸ sign Semicolon) anything (pair (parameters_at exp) (closed Semicolon (commas_at argument_at))) (token.Identifier gate) (qop_call re) (λ p st after h. after_token (token.Identifier gate) (parameters E p.0 ▸ commas argument p.1 ▸ sign Semicolon) st after h) st i after e
 qop_found re other st i after e = absurd cc
 
 qop_only : {E : Exp → Form} {End : List PlacedToken → Type 0} {exp : Reader Exp} → ReadsExpressions E End exp → (i : Qop) (large before : Option ℕ) (front rest : List PlacedToken) → qop E i large front → anything rest → qop_at exp (at (front ++ rest) before) ≡ Some (i, at rest (option_or before large))
 qop_only {E} {End} {exp} re (operation.U params arg) large before front rest t end = by_first_only (token.Keyword word.U) (some_expressions E params ▸ argument arg ▸ sign Semicolon) (qop_in exp) (operation.U params arg) (λ large before front rest h. made_only (λ (p : List Exp × Arg). operation.U p.0 p.1) (λ p. some_expressions E p.0 ▸ argument p.1 ▸ sign Semicolon) (pair (some_in_parentheses exp) (closed Semicolon argument_at)) (qop_u re) (params, arg) large before front rest h) large before front rest t
-qop_only {E} {End} {exp} re (operation.Cx control target) large before front rest t end = by_first_only (token.Keyword word.Cx) (argument control ▸ sign Comma ▸ argument target ▸ sign Semicolon) (qop_in exp) (operation.Cx control target) (λ large before front rest h. made_only (λ (p : Arg × Arg). operation.Cx p.0 p.1) (λ p. argument p.0 ▸ sign Comma ▸ argument p.1 ▸ sign Semicolon) (pair argument_at (behind Comma (closed Semicolon argument_at))) (two_arguments Comma (λ p rest e. rw e refl)) (control, target) large before front rest h) large before front rest t
-qop_only {E} {End} {exp} re (operation.Measure source target) large before front rest t end = by_first_only (token.Keyword word.Measure) (argument source ▸ sign Arrow ▸ argument target ▸ sign Semicolon) (qop_in exp) (operation.Measure source target) (λ large before front rest h. made_only (λ (p : Arg × Arg). operation.Measure p.0 p.1) (λ p. argument p.0 ▸ sign Arrow ▸ argument p.1 ▸ sign Semicolon) (pair argument_at (behind Arrow (closed Semicolon argument_at))) (two_arguments Arrow (λ p rest e. rw e refl)) (source, target) large before front rest h) large before front rest t
+qop_only {E} {End} {exp} re (operation.Cx control target) large before front rest t end = by_first_only (token.Keyword word.Cx) (argument control ▸ sign Comma ▸ argument target ▸ sign Semicolon) (qop_in exp) (operation.Cx control target) (λ large before front rest h. made_only (λ (p : Arg × Arg). operation.Cx p.0 p.1) (λ p. argument p.0 ▸ sign Comma ▸ argument p.1 ▸ sign Semicolon) (pair argument_at (after_sign Comma (closed Semicolon argument_at))) (two_arguments Comma (λ p rest e. rw e refl)) (control, target) large before front rest h) large before front rest t
+qop_only {E} {End} {exp} re (operation.Measure source target) large before front rest t end = by_first_only (token.Keyword word.Measure) (argument source ▸ sign Arrow ▸ argument target ▸ sign Semicolon) (qop_in exp) (operation.Measure source target) (λ large before front rest h. made_only (λ (p : Arg × Arg). operation.Measure p.0 p.1) (λ p. argument p.0 ▸ sign Arrow ▸ argument p.1 ▸ sign Semicolon) (pair argument_at (after_sign Arrow (closed Semicolon argument_at))) (two_arguments Arrow (λ p rest e. rw e refl)) (source, target) large before front rest h) large before front rest t
 qop_only {E} {End} {exp} re (operation.Reset arg) large before front rest t end = by_first_only (token.Keyword word.Reset) (argument arg ▸ sign Semicolon) (qop_in exp) (operation.Reset arg) (λ large before front rest h. made_only (λ (a : Arg). operation.Reset a) (λ a. argument a ▸ sign Semicolon) (closed Semicolon argument_at) closed_argument (arg) large before front rest h) large before front rest t
 qop_only {E} {End} {exp} re (operation.Call gate params args) large before front rest t end = by_first_only (token.Identifier gate) (parameters E params ▸ commas argument args ▸ sign Semicolon) (qop_in exp) (operation.Call gate params args) (λ large before front rest h. made_only (λ (p : List Exp × List Arg). operation.Call gate p.0 p.1) (λ p. parameters E p.0 ▸ commas argument p.1 ▸ sign Semicolon) (pair (parameters_at exp) (closed Semicolon (commas_at argument_at))) (qop_call re) (params, args) large before front rest h) large before front rest t
 
@@ -179,22 +179,22 @@ register_form = reads_pair name (λ n. index n ▸ sign Semicolon) anything anyt
 abbrev Formals : Type 0
 Formals = List (List ℕ) × List (List ℕ)
 
-braces : {E : Exp → Form} {End : List PlacedToken → Type 0} {exp : Reader Exp} → ReadsExpressions E End exp → Reads (λ items. sign LeftBrace ▸ each (body_item E) items ▸ sign RightBrace) anything (behind LeftBrace (closed RightBrace (body_at exp)))
-braces {E} {End} {exp} re = reads_behind LeftBrace (λ items. each (body_item E) items ▸ sign RightBrace) anything (closed RightBrace (body_at exp)) (reads_closed RightBrace (each (body_item E)) (comes_next RightBrace) (body_at exp) (reads_body re) (λ p rest e. rw e refl))
+braces : {E : Exp → Form} {End : List PlacedToken → Type 0} {exp : Reader Exp} → ReadsExpressions E End exp → Reads (λ items. sign LeftBrace ▸ each (body_item E) items ▸ sign RightBrace) anything (after_sign LeftBrace (closed RightBrace (body_at exp)))
+braces {E} {End} {exp} re = reads_after_sign LeftBrace (λ items. each (body_item E) items ▸ sign RightBrace) anything (closed RightBrace (body_at exp)) (reads_closed RightBrace (each (body_item E)) (comes_next RightBrace) (body_at exp) (reads_body re) (λ p rest e. rw e refl))
 
-gate_form : {E : Exp → Form} {End : List PlacedToken → Type 0} {exp : Reader Exp} → ReadsExpressions E End exp → Reads (λ (p : List ℕ × (Formals × List BodyItem)). name p.0 ▸ formals p.1.0.0 p.1.0.1 ▸ sign LeftBrace ▸ each (body_item E) p.1.1 ▸ sign RightBrace) anything (pair name_at (pair formals_at (behind LeftBrace (closed RightBrace (body_at exp)))))
-gate_form {E} {End} {exp} re = reads_pair name (λ (p : Formals × List BodyItem). formals p.0.0 p.0.1 ▸ sign LeftBrace ▸ each (body_item E) p.1 ▸ sign RightBrace) anything anything name_at (pair formals_at (behind LeftBrace (closed RightBrace (body_at exp)))) reads_name
-    (reads_pair (λ (p : Formals). formals p.0 p.1) (λ items. sign LeftBrace ▸ each (body_item E) items ▸ sign RightBrace) names_end anything formals_at (behind LeftBrace (closed RightBrace (body_at exp))) reads_formals (braces re)
+gate_form : {E : Exp → Form} {End : List PlacedToken → Type 0} {exp : Reader Exp} → ReadsExpressions E End exp → Reads (λ (p : List ℕ × (Formals × List BodyItem)). name p.0 ▸ formals p.1.0.0 p.1.0.1 ▸ sign LeftBrace ▸ each (body_item E) p.1.1 ▸ sign RightBrace) anything (pair name_at (pair formals_at (after_sign LeftBrace (closed RightBrace (body_at exp)))))
+gate_form {E} {End} {exp} re = reads_pair name (λ (p : Formals × List BodyItem). formals p.0.0 p.0.1 ▸ sign LeftBrace ▸ each (body_item E) p.1 ▸ sign RightBrace) anything anything name_at (pair formals_at (after_sign LeftBrace (closed RightBrace (body_at exp)))) reads_name
+    (reads_pair (λ (p : Formals). formals p.0 p.1) (λ items. sign LeftBrace ▸ each (body_item E) items ▸ sign RightBrace) names_end anything formals_at (after_sign LeftBrace (closed RightBrace (body_at exp))) reads_formals (braces re)
     (λ items large back rest t end. rw (t.parts, append_assoc) (sign_allowed names_end LeftBrace (λ p rest e. (tt, rw e refl)) t.large_front t.front (t.back ++ rest) t.first)))
     (no_end (λ (p : Formals × List BodyItem). formals p.0.0 p.0.1 ▸ sign LeftBrace ▸ each (body_item E) p.1 ▸ sign RightBrace) anything)
 
-condition_form : {E : Exp → Form} {End : List PlacedToken → Type 0} {exp : Reader Exp} → ReadsExpressions E End exp → Reads (λ (p : List ℕ × (ℕ × Qop)). sign LeftParenthesis ▸ name p.0 ▸ sign Equals ▸ integer p.1.0 ▸ sign RightParenthesis ▸ qop E p.1.1) anything (behind LeftParenthesis (pair name_at (behind Equals (pair integer_at (behind RightParenthesis (qop_at exp))))))
+condition_form : {E : Exp → Form} {End : List PlacedToken → Type 0} {exp : Reader Exp} → ReadsExpressions E End exp → Reads (λ (p : List ℕ × (ℕ × Qop)). sign LeftParenthesis ▸ name p.0 ▸ sign Equals ▸ integer p.1.0 ▸ sign RightParenthesis ▸ qop E p.1.1) anything (after_sign LeftParenthesis (pair name_at (after_sign Equals (pair integer_at (after_sign RightParenthesis (qop_at exp))))))
 condition_form {E} {End} {exp} re =
-    let last : Reads (λ op. sign RightParenthesis ▸ qop E op) anything (behind RightParenthesis (qop_at exp)) = reads_behind RightParenthesis (qop E) anything (qop_at exp) (reads_qop re) in
-    let value : Reads (λ (p : ℕ × Qop). integer p.0 ▸ sign RightParenthesis ▸ qop E p.1) anything (pair integer_at (behind RightParenthesis (qop_at exp))) = reads_pair integer (λ op. sign RightParenthesis ▸ qop E op) anything anything integer_at (behind RightParenthesis (qop_at exp)) reads_integer last (no_end (λ op. sign RightParenthesis ▸ qop E op) anything) in
-    let equal = reads_behind Equals (λ (p : ℕ × Qop). integer p.0 ▸ sign RightParenthesis ▸ qop E p.1) anything (pair integer_at (behind RightParenthesis (qop_at exp))) value in
-    let named = reads_pair name (λ (p : ℕ × Qop). sign Equals ▸ integer p.0 ▸ sign RightParenthesis ▸ qop E p.1) anything anything name_at (behind Equals (pair integer_at (behind RightParenthesis (qop_at exp)))) reads_name equal (no_end (λ (p : ℕ × Qop). sign Equals ▸ integer p.0 ▸ sign RightParenthesis ▸ qop E p.1) anything) in
-    reads_behind LeftParenthesis (λ (p : List ℕ × (ℕ × Qop)). name p.0 ▸ sign Equals ▸ integer p.1.0 ▸ sign RightParenthesis ▸ qop E p.1.1) anything (pair name_at (behind Equals (pair integer_at (behind RightParenthesis (qop_at exp))))) named
+    let last : Reads (λ op. sign RightParenthesis ▸ qop E op) anything (after_sign RightParenthesis (qop_at exp)) = reads_after_sign RightParenthesis (qop E) anything (qop_at exp) (reads_qop re) in
+    let value : Reads (λ (p : ℕ × Qop). integer p.0 ▸ sign RightParenthesis ▸ qop E p.1) anything (pair integer_at (after_sign RightParenthesis (qop_at exp))) = reads_pair integer (λ op. sign RightParenthesis ▸ qop E op) anything anything integer_at (after_sign RightParenthesis (qop_at exp)) reads_integer last (no_end (λ op. sign RightParenthesis ▸ qop E op) anything) in
+    let equal = reads_after_sign Equals (λ (p : ℕ × Qop). integer p.0 ▸ sign RightParenthesis ▸ qop E p.1) anything (pair integer_at (after_sign RightParenthesis (qop_at exp))) value in
+    let named = reads_pair name (λ (p : ℕ × Qop). sign Equals ▸ integer p.0 ▸ sign RightParenthesis ▸ qop E p.1) anything anything name_at (after_sign Equals (pair integer_at (after_sign RightParenthesis (qop_at exp)))) reads_name equal (no_end (λ (p : ℕ × Qop). sign Equals ▸ integer p.0 ▸ sign RightParenthesis ▸ qop E p.1) anything) in
+    reads_after_sign LeftParenthesis (λ (p : List ℕ × (ℕ × Qop)). name p.0 ▸ sign Equals ▸ integer p.1.0 ▸ sign RightParenthesis ▸ qop E p.1.1) anything (pair name_at (after_sign Equals (pair integer_at (after_sign RightParenthesis (qop_at exp))))) named
 
 closed_text : Reads (λ t. text t ▸ sign Semicolon) anything (closed Semicolon text_at)
 closed_text = reads_closed Semicolon text anything text_at reads_text (λ p rest e. tt)
@@ -207,19 +207,19 @@ first_same {X} {Y} t B in_token in_other mk alike x large before front rest h e 
     let taken : in_token t (at (h.back ++ rest) before) ≡ Some (x, at rest (option_or before large)) = rw (split, o.2) at e in
     rw (split, o.2) (alike (at (h.back ++ rest) before) ∙ ap (λ r. r >>= λ x. Some (mk x.0, x.1)) taken)
 
-applied_found : {E : Exp → Form} {End : List PlacedToken → Type 0} {exp : Reader Exp} → ReadsExpressions E End exp → (t : Token) (st : State) (s : Statement) (after : State) → made (λ op. statement.Apply op) (qop_in exp t) st ≡ Some (s, after) → Behind t (a_statement E s) st after
+applied_found : {E : Exp → Form} {End : List PlacedToken → Type 0} {exp : Reader Exp} → ReadsExpressions E End exp → (t : Token) (st : State) (s : Statement) (after : State) → made (λ op. statement.Apply op) (qop_in exp t) st ≡ Some (s, after) → After t (a_statement E s) st after
 applied_found {E} {End} {exp} re t st s after e =
     let x = bind_some (qop_in exp t st) (λ x. Some (statement.Apply x.0, x.1)) (s, after) e in
-    along (λ (r : Statement × State). Behind t (a_statement E r.0) st r.1) (statement.Apply x.0.0, x.0.1) (s, after) x.2 (qop_found re t st x.0.0 x.0.1 x.1)
+    along (λ (r : Statement × State). After t (a_statement E r.0) st r.1) (statement.Apply x.0.0, x.0.1) (s, after) x.2 (qop_found re t st x.0.0 x.0.1 x.1)
 
-statement_found : {E : Exp → Form} {End : List PlacedToken → Type 0} {exp : Reader Exp} → ReadsExpressions E End exp → (t : Token) (st : State) (i : Statement) (after : State) → statement_in exp t st ≡ Some (i, after) → Behind t (a_statement E i) st after
-statement_found {E} {End} {exp} re (token.Keyword word.Include) st i after e = made_found (λ s. statement.Include s) (a_statement E) (λ (s : List ℕ). text s ▸ sign Semicolon) anything (closed Semicolon text_at) (token.Keyword word.Include) closed_text (λ s st after h. behind_token (token.Keyword word.Include) (text s ▸ sign Semicolon) st after h) st i after e
-statement_found {E} {End} {exp} re (token.Keyword word.Qreg) st i after e = made_found (λ p. statement.Register true p.0 p.1) (a_statement E) (λ (p : List ℕ × ℕ). name p.0 ▸ index p.1 ▸ sign Semicolon) anything (pair name_at (closed Semicolon index_at)) (token.Keyword word.Qreg) register_form (λ p st after h. behind_token (token.Keyword word.Qreg) (name p.0 ▸ index p.1 ▸ sign Semicolon) st after h) st i after e
-statement_found {E} {End} {exp} re (token.Keyword word.Creg) st i after e = made_found (λ p. statement.Register false p.0 p.1) (a_statement E) (λ (p : List ℕ × ℕ). name p.0 ▸ index p.1 ▸ sign Semicolon) anything (pair name_at (closed Semicolon index_at)) (token.Keyword word.Creg) register_form (λ p st after h. behind_token (token.Keyword word.Creg) (name p.0 ▸ index p.1 ▸ sign Semicolon) st after h) st i after e
-statement_found {E} {End} {exp} re (token.Keyword word.Gate) st i after e = made_found (λ p. statement.Gate p.0 p.1.0.0 p.1.0.1 p.1.1) (a_statement E) (λ (p : List ℕ × (Formals × List BodyItem)). name p.0 ▸ formals p.1.0.0 p.1.0.1 ▸ sign LeftBrace ▸ each (body_item E) p.1.1 ▸ sign RightBrace) anything (pair name_at (pair formals_at (behind LeftBrace (closed RightBrace (body_at exp))))) (token.Keyword word.Gate) (gate_form re) (λ p st after h. behind_token (token.Keyword word.Gate) (name p.0 ▸ formals p.1.0.0 p.1.0.1 ▸ sign LeftBrace ▸ each (body_item E) p.1.1 ▸ sign RightBrace) st after h) st i after e
-statement_found {E} {End} {exp} re (token.Keyword word.Opaque) st i after e = made_found (λ p. statement.Opaque p.0 p.1.0 p.1.1) (a_statement E) (λ (p : List ℕ × Formals). name p.0 ▸ formals p.1.0 p.1.1 ▸ sign Semicolon) anything (pair name_at (closed Semicolon formals_at)) (token.Keyword word.Opaque) opaque_form (λ p st after h. behind_token (token.Keyword word.Opaque) (name p.0 ▸ formals p.1.0 p.1.1 ▸ sign Semicolon) st after h) st i after e
-statement_found {E} {End} {exp} re (token.Keyword word.Barrier) st i after e = made_found (λ xs. statement.Barrier xs) (a_statement E) (λ (xs : List Arg). commas argument xs ▸ sign Semicolon) anything (closed Semicolon (commas_at argument_at)) (token.Keyword word.Barrier) closed_arguments (λ xs st after h. behind_token (token.Keyword word.Barrier) (commas argument xs ▸ sign Semicolon) st after h) st i after e
-statement_found {E} {End} {exp} re (token.Keyword word.If) st i after e = made_found (λ p. statement.If p.0 p.1.0 p.1.1) (a_statement E) (λ (p : List ℕ × (ℕ × Qop)). sign LeftParenthesis ▸ name p.0 ▸ sign Equals ▸ integer p.1.0 ▸ sign RightParenthesis ▸ qop E p.1.1) anything (behind LeftParenthesis (pair name_at (behind Equals (pair integer_at (behind RightParenthesis (qop_at exp)))))) (token.Keyword word.If) (condition_form re) (λ p st after h. behind_token (token.Keyword word.If) (sign LeftParenthesis ▸ name p.0 ▸ sign Equals ▸ integer p.1.0 ▸ sign RightParenthesis ▸ qop E p.1.1) st after h) st i after e
+statement_found : {E : Exp → Form} {End : List PlacedToken → Type 0} {exp : Reader Exp} → ReadsExpressions E End exp → (t : Token) (st : State) (i : Statement) (after : State) → statement_in exp t st ≡ Some (i, after) → After t (a_statement E i) st after
+statement_found {E} {End} {exp} re (token.Keyword word.Include) st i after e = made_found (λ s. statement.Include s) (a_statement E) (λ (s : List ℕ). text s ▸ sign Semicolon) anything (closed Semicolon text_at) (token.Keyword word.Include) closed_text (λ s st after h. after_token (token.Keyword word.Include) (text s ▸ sign Semicolon) st after h) st i after e
+statement_found {E} {End} {exp} re (token.Keyword word.Qreg) st i after e = made_found (λ p. statement.Register true p.0 p.1) (a_statement E) (λ (p : List ℕ × ℕ). name p.0 ▸ index p.1 ▸ sign Semicolon) anything (pair name_at (closed Semicolon index_at)) (token.Keyword word.Qreg) register_form (λ p st after h. after_token (token.Keyword word.Qreg) (name p.0 ▸ index p.1 ▸ sign Semicolon) st after h) st i after e
+statement_found {E} {End} {exp} re (token.Keyword word.Creg) st i after e = made_found (λ p. statement.Register false p.0 p.1) (a_statement E) (λ (p : List ℕ × ℕ). name p.0 ▸ index p.1 ▸ sign Semicolon) anything (pair name_at (closed Semicolon index_at)) (token.Keyword word.Creg) register_form (λ p st after h. after_token (token.Keyword word.Creg) (name p.0 ▸ index p.1 ▸ sign Semicolon) st after h) st i after e
+statement_found {E} {End} {exp} re (token.Keyword word.Gate) st i after e = made_found (λ p. statement.Gate p.0 p.1.0.0 p.1.0.1 p.1.1) (a_statement E) (λ (p : List ℕ × (Formals × List BodyItem)). name p.0 ▸ formals p.1.0.0 p.1.0.1 ▸ sign LeftBrace ▸ each (body_item E) p.1.1 ▸ sign RightBrace) anything (pair name_at (pair formals_at (after_sign LeftBrace (closed RightBrace (body_at exp))))) (token.Keyword word.Gate) (gate_form re) (λ p st after h. after_token (token.Keyword word.Gate) (name p.0 ▸ formals p.1.0.0 p.1.0.1 ▸ sign LeftBrace ▸ each (body_item E) p.1.1 ▸ sign RightBrace) st after h) st i after e
+statement_found {E} {End} {exp} re (token.Keyword word.Opaque) st i after e = made_found (λ p. statement.Opaque p.0 p.1.0 p.1.1) (a_statement E) (λ (p : List ℕ × Formals). name p.0 ▸ formals p.1.0 p.1.1 ▸ sign Semicolon) anything (pair name_at (closed Semicolon formals_at)) (token.Keyword word.Opaque) opaque_form (λ p st after h. after_token (token.Keyword word.Opaque) (name p.0 ▸ formals p.1.0 p.1.1 ▸ sign Semicolon) st after h) st i after e
+statement_found {E} {End} {exp} re (token.Keyword word.Barrier) st i after e = made_found (λ xs. statement.Barrier xs) (a_statement E) (λ (xs : List Arg). commas argument xs ▸ sign Semicolon) anything (closed Semicolon (commas_at argument_at)) (token.Keyword word.Barrier) closed_arguments (λ xs st after h. after_token (token.Keyword word.Barrier) (commas argument xs ▸ sign Semicolon) st after h) st i after e
+statement_found {E} {End} {exp} re (token.Keyword word.If) st i after e = made_found (λ p. statement.If p.0 p.1.0 p.1.1) (a_statement E) (λ (p : List ℕ × (ℕ × Qop)). sign LeftParenthesis ▸ name p.0 ▸ sign Equals ▸ integer p.1.0 ▸ sign RightParenthesis ▸ qop E p.1.1) anything (after_sign LeftParenthesis (pair name_at (after_sign Equals (pair integer_at (after_sign RightParenthesis (qop_at exp)))))) (token.Keyword word.If) (condition_form re) (λ p st after h. after_token (token.Keyword word.If) (sign LeftParenthesis ▸ name p.0 ▸ sign Equals ▸ integer p.1.0 ▸ sign RightParenthesis ▸ qop E p.1.1) st after h) st i after e
 statement_found {E} {End} {exp} re other st i after e = applied_found re other st i after e
 
 -- an operation begins with a token of its own
@@ -234,10 +234,10 @@ statement_only : {E : Exp → Form} {End : List PlacedToken → Type 0} {exp : R
 statement_only {E} {End} {exp} re (statement.Include s) large before front rest t end = by_first_only (token.Keyword word.Include) (text s ▸ sign Semicolon) (statement_in exp) (statement.Include s) (λ large before front rest h. made_only (λ (s : List ℕ). statement.Include s) (λ s. text s ▸ sign Semicolon) (closed Semicolon text_at) closed_text (s) large before front rest h) large before front rest t
 statement_only {E} {End} {exp} re (statement.Register true n size) large before front rest t end = by_first_only (token.Keyword word.Qreg) (name n ▸ index size ▸ sign Semicolon) (statement_in exp) (statement.Register true n size) (λ large before front rest h. made_only (λ (p : List ℕ × ℕ). statement.Register true p.0 p.1) (λ p. name p.0 ▸ index p.1 ▸ sign Semicolon) (pair name_at (closed Semicolon index_at)) register_form (n, size) large before front rest h) large before front rest t
 statement_only {E} {End} {exp} re (statement.Register false n size) large before front rest t end = by_first_only (token.Keyword word.Creg) (name n ▸ index size ▸ sign Semicolon) (statement_in exp) (statement.Register false n size) (λ large before front rest h. made_only (λ (p : List ℕ × ℕ). statement.Register false p.0 p.1) (λ p. name p.0 ▸ index p.1 ▸ sign Semicolon) (pair name_at (closed Semicolon index_at)) register_form (n, size) large before front rest h) large before front rest t
-statement_only {E} {End} {exp} re (statement.Gate n params qubits body) large before front rest t end = by_first_only (token.Keyword word.Gate) (name n ▸ formals params qubits ▸ sign LeftBrace ▸ each (body_item E) body ▸ sign RightBrace) (statement_in exp) (statement.Gate n params qubits body) (λ large before front rest h. made_only (λ (p : List ℕ × (Formals × List BodyItem)). statement.Gate p.0 p.1.0.0 p.1.0.1 p.1.1) (λ p. name p.0 ▸ formals p.1.0.0 p.1.0.1 ▸ sign LeftBrace ▸ each (body_item E) p.1.1 ▸ sign RightBrace) (pair name_at (pair formals_at (behind LeftBrace (closed RightBrace (body_at exp))))) (gate_form re) (n, ((params, qubits), body)) large before front rest h) large before front rest t
+statement_only {E} {End} {exp} re (statement.Gate n params qubits body) large before front rest t end = by_first_only (token.Keyword word.Gate) (name n ▸ formals params qubits ▸ sign LeftBrace ▸ each (body_item E) body ▸ sign RightBrace) (statement_in exp) (statement.Gate n params qubits body) (λ large before front rest h. made_only (λ (p : List ℕ × (Formals × List BodyItem)). statement.Gate p.0 p.1.0.0 p.1.0.1 p.1.1) (λ p. name p.0 ▸ formals p.1.0.0 p.1.0.1 ▸ sign LeftBrace ▸ each (body_item E) p.1.1 ▸ sign RightBrace) (pair name_at (pair formals_at (after_sign LeftBrace (closed RightBrace (body_at exp))))) (gate_form re) (n, ((params, qubits), body)) large before front rest h) large before front rest t
 statement_only {E} {End} {exp} re (statement.Opaque n params qubits) large before front rest t end = by_first_only (token.Keyword word.Opaque) (name n ▸ formals params qubits ▸ sign Semicolon) (statement_in exp) (statement.Opaque n params qubits) (λ large before front rest h. made_only (λ (p : List ℕ × Formals). statement.Opaque p.0 p.1.0 p.1.1) (λ p. name p.0 ▸ formals p.1.0 p.1.1 ▸ sign Semicolon) (pair name_at (closed Semicolon formals_at)) opaque_form (n, (params, qubits)) large before front rest h) large before front rest t
 statement_only {E} {End} {exp} re (statement.Barrier xs) large before front rest t end = by_first_only (token.Keyword word.Barrier) (commas argument xs ▸ sign Semicolon) (statement_in exp) (statement.Barrier xs) (λ large before front rest h. made_only (λ (xs : List Arg). statement.Barrier xs) (λ xs. commas argument xs ▸ sign Semicolon) (closed Semicolon (commas_at argument_at)) closed_arguments (xs) large before front rest h) large before front rest t
-statement_only {E} {End} {exp} re (statement.If creg value op) large before front rest t end = by_first_only (token.Keyword word.If) (sign LeftParenthesis ▸ name creg ▸ sign Equals ▸ integer value ▸ sign RightParenthesis ▸ qop E op) (statement_in exp) (statement.If creg value op) (λ large before front rest h. made_only (λ (p : List ℕ × (ℕ × Qop)). statement.If p.0 p.1.0 p.1.1) (λ p. sign LeftParenthesis ▸ name p.0 ▸ sign Equals ▸ integer p.1.0 ▸ sign RightParenthesis ▸ qop E p.1.1) (behind LeftParenthesis (pair name_at (behind Equals (pair integer_at (behind RightParenthesis (qop_at exp)))))) (condition_form re) (creg, (value, op)) large before front rest h) large before front rest t
+statement_only {E} {End} {exp} re (statement.If creg value op) large before front rest t end = by_first_only (token.Keyword word.If) (sign LeftParenthesis ▸ name creg ▸ sign Equals ▸ integer value ▸ sign RightParenthesis ▸ qop E op) (statement_in exp) (statement.If creg value op) (λ large before front rest h. made_only (λ (p : List ℕ × (ℕ × Qop)). statement.If p.0 p.1.0 p.1.1) (λ p. sign LeftParenthesis ▸ name p.0 ▸ sign Equals ▸ integer p.1.0 ▸ sign RightParenthesis ▸ qop E p.1.1) (after_sign LeftParenthesis (pair name_at (after_sign Equals (pair integer_at (after_sign RightParenthesis (qop_at exp)))))) (condition_form re) (creg, (value, op)) large before front rest h) large before front rest t
 statement_only re (statement.Apply op) large before front rest t end = applied_only re op large before front rest t
 
 pub reads_statement : {E : Exp → Form} {End : List PlacedToken → Type 0} {exp : Reader Exp} → ReadsExpressions E End exp → Reads (a_statement E) anything (statement_at exp)

@@ -11,7 +11,7 @@ use Rattle.qasm_read.specs.Forms.{each, place_of}
 use Rattle.qasm_read.specs.Grammar.{a_statement, an_expression}
 use Rattle.qasm_read.specs.Reading.{State, statement_at, header_at}
 use Rattle.qasm_read.specs.Expressions.{exp_at}
-use Rattle.qasm_read.specs.Program.{header, a_placed_statement, Begins, NoStatementBegins, verdict, AnswersBehind, Answers}
+use Rattle.qasm_read.specs.Program.{header, a_placed_statement, Begins, NoStatementBegins, verdict, AnswersAfter, Answers}
 use Rattle.qasm_read.proofs.Readers.{at, some_is}
 use Rattle.qasm_read.proofs.ExpressionLaws.{cut_expression}
 use Rattle.qasm_read.proofs.Changes.{change_statement, none_parts, to_cut}
@@ -74,8 +74,8 @@ same_verdict ss us (Some large) left same = refl
 same_verdict ss us None [] same = ap (λ (xs : List Placed). Ok xs) (same refl)
 same_verdict ss us None (p ∷ left) same = refl
 
-pub one_behind : (placed : List PlacedToken) (x y : Result (List Placed) QasmFault) → AnswersBehind placed x → AnswersBehind placed y → x ≡ y
-one_behind placed x y a b =
+pub one_after : (placed : List PlacedToken) (x y : Result (List Placed) QasmFault) → AnswersAfter placed x → AnswersAfter placed y → x ≡ y
+one_after placed x y a b =
     let same = same_runs a.0 b.0 a.1 b.1 placed a.3.begins.front b.3.begins.front a.2 b.2 a.3.begins.spelled b.3.begins.spelled a.3.begins.parts b.3.begins.parts a.3.ended b.3.ended in
     a.4 ∙ same_verdict a.0 b.0 a.1 a.2 same.2 ∙ ap (λ o. verdict b.0 o a.2) same.0 ∙ ap (λ (ts : List PlacedToken). verdict b.0 b.1 ts) same.1 ∙ sym b.4
 
@@ -87,10 +87,10 @@ one_header placed a b p q =
 
 -- an answer after a header
 abbrev Headed : List PlacedToken → Result (List Placed) QasmFault → Type 0
-Headed placed x = (behind : List PlacedToken) × Begins header None placed behind × AnswersBehind behind x
+Headed placed x = (rest : List PlacedToken) × Begins header None placed rest × AnswersAfter rest x
 
 one_headed : (placed : List PlacedToken) (x y : Result (List Placed) QasmFault) → Headed placed x → Headed placed y → x ≡ y
-one_headed placed x y a b = one_behind b.0 x y (subst (λ (ts : List PlacedToken). AnswersBehind ts x) (one_header placed a.0 b.0 a.1 b.1) a.2) b.2
+one_headed placed x y a b = one_after b.0 x y (subst (λ (ts : List PlacedToken). AnswersAfter ts x) (one_header placed a.0 b.0 a.1 b.1) a.2) b.2
 
 abbrev Unheaded : List PlacedToken → Type 0
 Unheaded placed = (left : List PlacedToken) → Begins header None placed left → ⊥

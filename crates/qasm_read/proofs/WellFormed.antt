@@ -23,7 +23,7 @@ use Rattle.qasm_tokens.specs.TokenKinds.{IsToken, AreTokens}
 use Rattle.qasm_read.specs.Forms.{Form, Then, ◌▸◌, tokens_of, place_of, just, sign, name, integer, each, commas, parameters}
 use Rattle.qasm_read.specs.Forms as forms
 use Rattle.qasm_read.specs.Grammar.{Level, expression, term, factor, power, atom, Spells, real, whole, pi, named, applied, in_parentheses, negated, joined, an_atom, a_power, a_factor, a_term, sign_of, nodes_of, is_small, an_expression, index, argument, formals, some_expressions, body_item, qop, a_statement}
-use Rattle.qasm_read.specs.Program.{a_placed_statement, verdict, AnswersBehind, Answers, UnlessMemory}
+use Rattle.qasm_read.specs.Program.{a_placed_statement, verdict, AnswersAfter, Answers, UnlessMemory}
 use Rattle.circuit_core.specs.Reals.{IsShortReal}
 use Rattle.qasm_read.specs.WellFormed.{IsName, names_step, names_of, reals_step, reals_of, IsExpression, IsArgument, AtLeastOne, IsBodyItem, IsOperation, IsWellFormed, AreWellFormed}
 use Rattle.qasm_read.proofs.Changes.{none_parts}
@@ -196,15 +196,15 @@ by_verdict statements program None [] e = (refl, cc)
 by_verdict statements program None (p ∷ left) e = absurd cc
 by_verdict statements program (Some at) left e = absurd cc
 
-behind_header : (placed : List PlacedToken) (program : List Placed) → AreTokens placed → AnswersBehind placed (Ok program) → AreWellFormed program
-behind_header placed program tokens (statements, large, left, run, e) =
+after_header : (placed : List PlacedToken) (program : List Placed) → AreTokens placed → AnswersAfter placed (Ok program) → AreWellFormed program
+after_header placed program tokens (statements, large, left, run, e) =
     let v = by_verdict statements program large left e in
     let k = both_parts (λ (p : PlacedToken). IsToken p.token) run.begins.front left (subst AreTokens run.begins.parts tokens) in
     let spelled = subst (λ (o : Option ℕ). each a_placed_statement statements o run.begins.front) v.0 run.begins.spelled in
     rw v.1 (each_one a_placed_statement (λ p. IsWellFormed p.statement) one_placed statements run.begins.front k.0 spelled)
 
 well_formed : (placed : List PlacedToken) (program : List Placed) → AreTokens placed → Answers placed (Ok program) → AreWellFormed program
-well_formed placed program tokens (behind, begins, answer) = behind_header behind program (both_parts (λ (p : PlacedToken). IsToken p.token) begins.front behind (subst AreTokens begins.parts tokens)).1 answer
+well_formed placed program tokens (rest, begins, answer) = after_header rest program (both_parts (λ (p : PlacedToken). IsToken p.token) begins.front rest (subst AreTokens begins.parts tokens)).1 answer
 
 pub well_formed_if_read : (placed : List PlacedToken) (result : Result (List Placed) QasmFault) → AreTokens placed → UnlessMemory (Answers placed) result → IfOk result AreWellFormed
 well_formed_if_read placed (Ok program) tokens answer = well_formed placed program tokens answer

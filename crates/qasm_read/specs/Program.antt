@@ -40,13 +40,13 @@ verdict statements None [] = Ok statements
 verdict statements None (p ∷ left) = Err (NoStatement p.at)
 
 -- the answer to the tokens after the header
-abbrev pub AnswersBehind : List PlacedToken → Result (List Placed) QasmFault → Type 0
-AnswersBehind placed answer = (statements : List Placed) × (large : Option ℕ) × (left : List PlacedToken) × LongestRun statements large placed left × (answer ≡ verdict statements large left)
+abbrev pub AnswersAfter : List PlacedToken → Result (List Placed) QasmFault → Type 0
+AnswersAfter placed answer = (statements : List Placed) × (large : Option ℕ) × (left : List PlacedToken) × LongestRun statements large placed left × (answer ≡ verdict statements large left)
 
 -- the answer to the tokens
 abbrev pub Answers : List PlacedToken → Result (List Placed) QasmFault → Type 0
 Answers placed (Err Header) = (left : List PlacedToken) → Begins header None placed left → ⊥
-Answers placed answer = (behind : List PlacedToken) × Begins header None placed behind × AnswersBehind behind answer
+Answers placed answer = (rest : List PlacedToken) × Begins header None placed rest × AnswersAfter rest answer
 
 -- what a function answered is the answer, unless memory ran out
 abbrev pub UnlessMemory : (Result (List Placed) QasmFault → Type 0) → Result (List Placed) QasmFault → Type 0

@@ -101,8 +101,8 @@ made f read st = read st >>= λ x. Some (f x.0, x.1)
 abbrev pub pair : {X Y : Type 0} → Reader X → Reader Y → Reader (X × Y)
 pair f g st = f st >>= λ x. g x.1 >>= λ y. Some ((x.0, y.0), y.1)
 
-abbrev pub behind : {X : Type 0} → Sign → Reader X → Reader X
-behind s read st = skip_at s st >>= λ x. read x.1
+abbrev pub after_sign : {X : Type 0} → Sign → Reader X → Reader X
+after_sign s read st = skip_at s st >>= λ x. read x.1
 
 abbrev pub closed : {X : Type 0} → Sign → Reader X → Reader X
 closed s read st = read st >>= λ x. skip_at s x.1 >>= λ y. Some (x.0, y.1)
@@ -121,23 +121,23 @@ repeat_at more read st = repeat more read (length st.placed) st
 
 -- at least one, with commas between
 abbrev pub commas_at : {X : Type 0} → Reader X → Reader (List X)
-commas_at read st = read st >>= λ x. with_front (x.0 ∷ []) (repeat_at (comes Comma) (behind Comma read) x.1)
+commas_at read st = read st >>= λ x. with_front (x.0 ∷ []) (repeat_at (comes Comma) (after_sign Comma read) x.1)
 
 -- at least one in parentheses
 abbrev pub some_in_parentheses : {X : Type 0} → Reader X → Reader (List X)
-some_in_parentheses read = behind LeftParenthesis (closed RightParenthesis (commas_at read))
+some_in_parentheses read = after_sign LeftParenthesis (closed RightParenthesis (commas_at read))
 
 abbrev pub within : {X : Type 0} → Reader X → Reader (List X)
 within read st = cond (comes RightParenthesis st) (made (λ u. []) (skip_at RightParenthesis) st) (closed RightParenthesis (commas_at read) st)
 
 -- any number in parentheses, which may be absent where there are none
 abbrev pub parameters_at : {X : Type 0} → Reader X → Reader (List X)
-parameters_at read st = cond (comes LeftParenthesis st) (behind LeftParenthesis (within read) st) (Some ([], st))
+parameters_at read st = cond (comes LeftParenthesis st) (after_sign LeftParenthesis (within read) st) (Some ([], st))
 
 -- ---- the forms
 
 abbrev pub index_at : Reader ℕ
-index_at = behind LeftBracket (closed RightBracket integer_at)
+index_at = after_sign LeftBracket (closed RightBracket integer_at)
 
 abbrev pub argument_at : Reader Arg
 argument_at st = name_at st >>= λ x. cond (comes LeftBracket x.1) (index_at x.1 >>= λ y. Some (record { name = x.0; index = Some y.0 }, y.1)) (Some (record { name = x.0; index = None }, x.1))
@@ -151,7 +151,7 @@ abbrev pub body_universal_at : Reader Exp → Reader BodyItem
 body_universal_at exp = made (λ p. item.U p.0 p.1) (pair (some_in_parentheses exp) (closed Semicolon name_at))
 
 abbrev pub body_controlled_not_at : Reader BodyItem
-body_controlled_not_at = made (λ p. item.Cx p.0 p.1) (pair name_at (behind Comma (closed Semicolon name_at)))
+body_controlled_not_at = made (λ p. item.Cx p.0 p.1) (pair name_at (after_sign Comma (closed Semicolon name_at)))
 
 abbrev pub body_barrier_at : Reader BodyItem
 body_barrier_at = made (λ args. item.Barrier args) (closed Semicolon (commas_at name_at))
@@ -177,10 +177,10 @@ abbrev pub universal_at : Reader Exp → Reader Qop
 universal_at exp = made (λ p. operation.U p.0 p.1) (pair (some_in_parentheses exp) (closed Semicolon argument_at))
 
 abbrev pub controlled_not_at : Reader Qop
-controlled_not_at = made (λ p. operation.Cx p.0 p.1) (pair argument_at (behind Comma (closed Semicolon argument_at)))
+controlled_not_at = made (λ p. operation.Cx p.0 p.1) (pair argument_at (after_sign Comma (closed Semicolon argument_at)))
 
 abbrev pub measure_at : Reader Qop
-measure_at = made (λ p. operation.Measure p.0 p.1) (pair argument_at (behind Arrow (closed Semicolon argument_at)))
+measure_at = made (λ p. operation.Measure p.0 p.1) (pair argument_at (after_sign Arrow (closed Semicolon argument_at)))
 
 abbrev pub reset_at : Reader Qop
 reset_at = made (λ a. operation.Reset a) (closed Semicolon argument_at)
@@ -206,7 +206,7 @@ abbrev pub register_at : Bool → Reader Statement
 register_at quantum = made (λ p. statement.Register quantum p.0 p.1) (pair name_at (closed Semicolon index_at))
 
 abbrev pub gate_at : Reader Exp → Reader Statement
-gate_at exp = made (λ p. statement.Gate p.0 p.1.0.0 p.1.0.1 p.1.1) (pair name_at (pair formals_at (behind LeftBrace (closed RightBrace (body_at exp)))))
+gate_at exp = made (λ p. statement.Gate p.0 p.1.0.0 p.1.0.1 p.1.1) (pair name_at (pair formals_at (after_sign LeftBrace (closed RightBrace (body_at exp)))))
 
 abbrev pub opaque_at : Reader Statement
 opaque_at = made (λ p. statement.Opaque p.0 p.1.0 p.1.1) (pair name_at (closed Semicolon formals_at))
@@ -215,7 +215,7 @@ abbrev pub barrier_at : Reader Statement
 barrier_at = made (λ args. statement.Barrier args) (closed Semicolon (commas_at argument_at))
 
 abbrev pub condition_at : Reader Exp → Reader Statement
-condition_at exp = made (λ p. statement.If p.0 p.1.0 p.1.1) (behind LeftParenthesis (pair name_at (behind Equals (pair integer_at (behind RightParenthesis (qop_at exp))))))
+condition_at exp = made (λ p. statement.If p.0 p.1.0 p.1.1) (after_sign LeftParenthesis (pair name_at (after_sign Equals (pair integer_at (after_sign RightParenthesis (qop_at exp))))))
 
 abbrev pub statement_in : Reader Exp → Token → Reader Statement
 statement_in exp (token.Keyword word.Include) = include_at

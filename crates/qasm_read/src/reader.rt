@@ -2,7 +2,7 @@
 
 ghost use Rattle.std.specs.Prelude.{◌≡◌, None};
 ghost use Rattle.qasm_read.specs.Reading.{Gives, opening_at, version_at, header_at};
-ghost use Rattle.qasm_read.specs.Program.{Answers, AnswersBehind, UnlessMemory};
+ghost use Rattle.qasm_read.specs.Program.{Answers, AnswersAfter, UnlessMemory};
 
 use crate::fault::QasmFault;
 use crate::statement::{Placed, Program};
@@ -61,7 +61,7 @@ fn statements<T: TokenSource + Drop>(
     tokens: &mut Tokens<T>,
 ) -> Result<Program, QasmFault>
     requires { tokens.old.large ≡ None }
-    ensures { UnlessMemory (AnswersBehind tokens.old.placed) result }
+    ensures { UnlessMemory (AnswersAfter tokens.old.placed) result }
 {
     let mut statements = Vec::new(alloc);
     while let Some(at) = tokens.place() {

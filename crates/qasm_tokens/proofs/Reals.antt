@@ -44,10 +44,10 @@ no_later_real text k e h =
     let whole = prefix_len is_ascii_digit text in
     let fraction = fraction_len whole (drop whole text) in
     let left : prefix_len is_ascii_digit (drop k text) ≡ whole - k = rest_of_run is_ascii_digit k text (omega (arith, h)) in
-    let behind_digits : drop (whole - k) (drop k text) ≡ drop whole text = drop-drop (whole - k) k text ∙ ap (λ (n : ℕ). drop n text) (omega (arith, h)) in
+    let after_digits : drop (whole - k) (drop k text) ≡ drop whole text = drop-drop (whole - k) k text ∙ ap (λ (n : ℕ). drop n text) (omega (arith, h)) in
     let as_before : fraction_len (whole - k) (drop whole text) ≡ fraction = same_fraction (whole - k) whole (drop whole text) (omega (arith, h)) (omega (arith, h)) in
-    let behind_fraction : drop (whole - k + fraction) (drop k text) ≡ drop (whole + fraction) text = drop-drop (whole - k + fraction) k text ∙ ap (λ (n : ℕ). drop n text) (omega (arith, h)) in
-    rw (left, behind_digits, as_before, behind_fraction) (none_of_parts whole (whole - k) fraction (exponent_len (drop (whole + fraction) text)) (omega (arith, h)) e)
+    let after_fraction : drop (whole - k + fraction) (drop k text) ≡ drop (whole + fraction) text = drop-drop (whole - k + fraction) k text ∙ ap (λ (n : ℕ). drop n text) (omega (arith, h)) in
+    rw (left, after_digits, as_before, after_fraction) (none_of_parts whole (whole - k) fraction (exponent_len (drop (whole + fraction) text)) (omega (arith, h)) e)
 
 -- the same after the bytes before
 pub no_real_within : (text : List ℕ) (at place : ℕ) → real_len (drop at text) ≡ 0 → at ≤ place → place < at + prefix_len is_ascii_digit (drop at text) → real_len (drop place text) ≡ 0

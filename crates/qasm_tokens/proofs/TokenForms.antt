@@ -126,8 +126,8 @@ comment_at_least xs rest e = rw (begins_more 47 47 xs rest e.0) (run_at_least is
 quote_front : (text : List ℕ) → begins (34 ∷ []) (drop (prefix_len is_string_byte text) text) ≡ true → Front IsString (prefix_len is_string_byte text + 2) (34 ∷ text)
 quote_front text e =
     let f = run_front is_string_byte text in
-    let behind : drop (prefix_len is_string_byte text) text ≡ f.rest = ap (λ (l : List ℕ). drop (prefix_len is_string_byte text) l) f.made ∙ drop_at f.front f.rest (prefix_len is_string_byte text) f.len in
-    let starts : begins (34 ∷ []) f.rest ≡ true = ap (begins (34 ∷ [])) (sym behind) ∙ e in
+    let after : drop (prefix_len is_string_byte text) text ≡ f.rest = ap (λ (l : List ℕ). drop (prefix_len is_string_byte text) l) f.made ∙ drop_at f.front f.rest (prefix_len is_string_byte text) f.len in
+    let starts : begins (34 ∷ []) f.rest ≡ true = ap (begins (34 ∷ [])) (sym after) ∙ e in
     let quote : f.rest ≡ 34 ∷ drop 1 f.rest = sym (take-append-drop 1 f.rest) ∙ ap (λ (l : List ℕ). l ++ drop 1 f.rest) (sym (begins_is (34 ∷ []) f.rest starts)) in
     record {
       front = 34 ∷ (f.front ++ 34 ∷ []);
@@ -153,8 +153,8 @@ quoted_at_least : (inside rest : List ℕ) → Each is_string_byte inside → le
 unfolding string_len
 quoted_at_least inside rest e =
     let stops : prefix_len is_string_byte (inside ++ 34 ∷ rest) ≡ length inside = run_stops is_string_byte inside 34 rest e refl in
-    let behind : drop (length inside) (inside ++ 34 ∷ rest) ≡ 34 ∷ rest = drop_at inside (34 ∷ rest) (length inside) refl in
-    rw (stops, behind) (omega arith)
+    let after : drop (length inside) (inside ++ 34 ∷ rest) ≡ 34 ∷ rest = drop_at inside (34 ∷ rest) (length inside) refl in
+    rw (stops, after) (omega arith)
 
 pub string_at_least : (xs rest : List ℕ) → IsString xs → length xs ≤ string_len (xs ++ rest)
 string_at_least xs rest e =
@@ -178,9 +178,9 @@ sign_front (b ∷ text) = sign_cases b text (b == 43) (b == 45) refl refl
 exponent_made : (b : ℕ) (text : List ℕ) → (b ≡ 101) ⊎ (b ≡ 69) → 0 < prefix_len is_ascii_digit (drop (sign_len text) text) → Front IsExponent (1 + sign_len text + prefix_len is_ascii_digit (drop (sign_len text) text)) (b ∷ text)
 exponent_made b text letter h =
     let s = sign_front text in
-    let behind : drop (sign_len text) text ≡ s.rest = ap (λ (l : List ℕ). drop (sign_len text) l) s.made ∙ drop_at s.front s.rest (sign_len text) s.len in
+    let after : drop (sign_len text) text ≡ s.rest = ap (λ (l : List ℕ). drop (sign_len text) l) s.made ∙ drop_at s.front s.rest (sign_len text) s.len in
     let d = run_front is_ascii_digit s.rest in
-    let digits : prefix_len is_ascii_digit (drop (sign_len text) text) ≡ prefix_len is_ascii_digit s.rest = ap (prefix_len is_ascii_digit) behind in
+    let digits : prefix_len is_ascii_digit (drop (sign_len text) text) ≡ prefix_len is_ascii_digit s.rest = ap (prefix_len is_ascii_digit) after in
     record {
       front = b ∷ (s.front ++ d.front);
       rest = d.rest;
@@ -223,10 +223,10 @@ exponent_of_parts : (letter : ℕ) (sign digits rest : List ℕ) → (letter ≡
 unfolding exponent_len
 exponent_of_parts letter sign digits rest l s h e =
     let signed = sign_stands sign digits rest s h e in
-    let behind : drop (length sign) (sign ++ (digits ++ rest)) ≡ digits ++ rest = drop_at sign (digits ++ rest) (length sign) refl in
+    let after : drop (length sign) (sign ++ (digits ++ rest)) ≡ digits ++ rest = drop_at sign (digits ++ rest) (length sign) refl in
     let many = run_at_least is_ascii_digit digits rest e in
     let some : nat_lt 0 (prefix_len is_ascii_digit (digits ++ rest)) ≡ true = lt-ltb _ _ (omega (arith, h, many)) in
-    rw (signed, behind, (letter_tests letter l).0, some) (omega (arith, many))
+    rw (signed, after, (letter_tests letter l).0, some) (omega (arith, many))
 
 pub exponent_at_least : (xs rest : List ℕ) → IsExponent xs → length xs ≤ exponent_len (xs ++ rest)
 exponent_at_least xs rest e =
@@ -310,8 +310,8 @@ point_front text h =
     let whole = run_front is_ascii_digit text in
     let fraction = fraction_front w (drop w text) h in
     let f = fraction_len w (drop w text) in
-    let behind : drop w text ≡ whole.rest = ap (λ (l : List ℕ). drop w l) whole.made ∙ drop_at whole.front whole.rest w whole.len in
-    let rest_is : whole.rest ≡ 46 ∷ (fraction.digits ++ fraction.rest) = sym behind ∙ fraction.made in
+    let after : drop w text ≡ whole.rest = ap (λ (l : List ℕ). drop w l) whole.made ∙ drop_at whole.front whole.rest w whole.len in
+    let rest_is : whole.rest ≡ 46 ∷ (fraction.digits ++ fraction.rest) = sym after ∙ fraction.made in
     let split : text ≡ (whole.front ++ 46 ∷ fraction.digits) ++ fraction.rest = whole.made ∙ ap (λ (l : List ℕ). whole.front ++ l) rest_is ∙ sym (append_assoc whole.front (46 ∷ fraction.digits) fraction.rest) in
     let front_len : length (whole.front ++ 46 ∷ fraction.digits) ≡ w + f = omega (arith, length-append whole.front (46 ∷ fraction.digits), whole.len, fraction.len) in
     let left : drop (w + f) text ≡ fraction.rest = ap (λ (l : List ℕ). drop (w + f) l) split ∙ drop_at (whole.front ++ 46 ∷ fraction.digits) fraction.rest (w + f) front_len in
@@ -365,8 +365,8 @@ point_at_least whole fraction exponent rest ew ef some perhaps =
     let d = prefix_len is_ascii_digit (fraction ++ (exponent ++ rest)) in
     let many = run_at_least is_ascii_digit fraction (exponent ++ rest) ef in
     let e1 : prefix_len is_ascii_digit text ≡ w = run_stops is_ascii_digit whole 46 (fraction ++ (exponent ++ rest)) ew refl in
-    let behind : drop w text ≡ 46 ∷ (fraction ++ (exponent ++ rest)) = drop_at whole (46 ∷ (fraction ++ (exponent ++ rest))) w refl in
-    let e2 : fraction_len w (drop w text) ≡ 1 + d = ap (fraction_len w) behind ∙ fraction_of w (fraction ++ (exponent ++ rest)) (omega (arith, some, many)) in
+    let after : drop w text ≡ 46 ∷ (fraction ++ (exponent ++ rest)) = drop_at whole (46 ∷ (fraction ++ (exponent ++ rest))) w refl in
+    let e2 : fraction_len w (drop w text) ≡ 1 + d = ap (fraction_len w) after ∙ fraction_of w (fraction ++ (exponent ++ rest)) (omega (arith, some, many)) in
     let all = real_is text w (1 + d) e1 e2 (inl (omega arith)) in
     ⊎_elim
     (λ none. omega (arith, all, many, ap length none))
@@ -378,16 +378,16 @@ point_at_least whole fraction exponent rest ew ef some perhaps =
     omega (arith, all, exact, ap exponent_len left, exponent_at_least exponent rest e))
     perhaps
 
-exponent_behind : (whole exponent rest : List ℕ) → Each is_ascii_digit whole → 0 < length whole → IsExponent exponent → length whole + length exponent ≤ real_len (whole ++ (exponent ++ rest))
-exponent_behind whole exponent rest ew some e =
+exponent_after : (whole exponent rest : List ℕ) → Each is_ascii_digit whole → 0 < length whole → IsExponent exponent → length whole + length exponent ≤ real_len (whole ++ (exponent ++ rest))
+exponent_after whole exponent rest ew some e =
     let text = whole ++ (exponent ++ rest) in
     let w = length whole in
     let first = begins_with_letter exponent rest e in
     let tests = letter_tests e.letter e.is_letter in
     let e1 : prefix_len is_ascii_digit text ≡ w = ap (λ (l : List ℕ). prefix_len is_ascii_digit (whole ++ l)) first ∙ run_stops is_ascii_digit whole e.letter ((e.sign ++ e.digits) ++ rest) ew tests.1 in
-    let behind : drop w text ≡ exponent ++ rest = drop_at whole (exponent ++ rest) w refl in
-    let e2 : fraction_len w (drop w text) ≡ 0 = ap (fraction_len w) (behind ∙ first) ∙ no_fraction w e.letter ((e.sign ++ e.digits) ++ rest) tests.2 in
-    let left : drop (w + 0) text ≡ exponent ++ rest = ap (λ (n : ℕ). drop n text) (let z : w + 0 ≡ w = omega arith in z) ∙ behind in
+    let after : drop w text ≡ exponent ++ rest = drop_at whole (exponent ++ rest) w refl in
+    let e2 : fraction_len w (drop w text) ≡ 0 = ap (fraction_len w) (after ∙ first) ∙ no_fraction w e.letter ((e.sign ++ e.digits) ++ rest) tests.2 in
+    let left : drop (w + 0) text ≡ exponent ++ rest = ap (λ (n : ℕ). drop n text) (let z : w + 0 ≡ w = omega arith in z) ∙ after in
     let many = exponent_at_least exponent rest e in
     let letters : 0 < length exponent = omega (arith, ap length e.made) in
     omega (arith, real_is text w 0 e1 e2 (inr (some, omega (arith, letters, many, ap exponent_len left))), many, ap exponent_len left)
@@ -400,7 +400,7 @@ real_at_least xs rest (inl e) =
 real_at_least xs rest (inr e) =
     let whole : xs ++ rest ≡ e.whole ++ (e.exponent ++ rest) = ap (λ (l : List ℕ). l ++ rest) e.made ∙ append_assoc e.whole e.exponent rest in
     let len : length xs ≡ length e.whole + length e.exponent = omega (arith, ap length e.made, length-append e.whole e.exponent) in
-    rw (whole, len) (exponent_behind e.whole e.exponent rest e.whole_digits e.some e.is_exponent)
+    rw (whole, len) (exponent_after e.whole e.exponent rest e.whole_digits e.some e.is_exponent)
 
 -- a real goes on after its first digits
 pub real_covers : (text : List ℕ) → 0 < real_len text → prefix_len is_ascii_digit text ≤ real_len text
@@ -421,9 +421,9 @@ no_exponent : exponent_len [] ≡ 0
 unfolding exponent_len
 no_exponent = refl
 
-nothing_behind : (whole : ℕ) → fraction_len whole [] ≡ 0
+nothing_after : (whole : ℕ) → fraction_len whole [] ≡ 0
 unfolding fraction_len
-nothing_behind whole = refl
+nothing_after whole = refl
 
 -- digits alone are no real
 pub digits_no_real : (xs : List ℕ) → Each is_ascii_digit xs → real_len xs ≡ 0
@@ -431,7 +431,7 @@ digits_no_real xs e =
     let w = prefix_len is_ascii_digit xs in
     let long : length xs ≤ w = subst (λ (l : List ℕ). length xs ≤ prefix_len is_ascii_digit l) (append-nil xs) (run_at_least is_ascii_digit xs [] e) in
     let none : drop w xs ≡ [] = drop_all w xs long in
-    let f : fraction_len w (drop w xs) ≡ 0 = ap (fraction_len w) none ∙ nothing_behind w in
+    let f : fraction_len w (drop w xs) ≡ 0 = ap (fraction_len w) none ∙ nothing_after w in
     let left : drop (w + fraction_len w (drop w xs)) xs ≡ [] = drop_all (w + fraction_len w (drop w xs)) xs (omega (arith, long)) in
     let x : exponent_len (drop (w + fraction_len w (drop w xs)) xs) ≡ 0 = ap exponent_len left ∙ no_exponent in
     real_parts xs ∙ rw (x, f) (no_parts w)

@@ -13,7 +13,7 @@ use Rattle.qasm_tokens.specs.declared.token_fault.TokenFault.{TokenFault}
 use Rattle.qasm_tokens.specs.declared.piece.Shape.{Shape}
 use Rattle.qasm_tokens.specs.declared.piece.Shape.TheVariants as shapes
 use Rattle.qasm_tokens.specs.Tokens.{keyword_of, is_upper, short_token, word_token, token_of, tokens_of, with_front}
-use Rattle.qasm_tokens.specs.Scan.{behind}
+use Rattle.qasm_tokens.specs.Scan.{after_token}
 use Rattle.qasm_tokens.specs.TokenForms.{IsWord, IsString, HasForm}
 use Rattle.qasm_tokens.specs.TokenReading.{ReadsAs, at_end, no_form, bad_token, too_deep, goes_on}
 use Rattle.qasm_tokens.specs.TokenKinds.{IsToken, AreTokens}
@@ -67,9 +67,9 @@ with_first : (at : ℕ) (token : Option Token) (placed : List PlacedToken) → (
 with_first at None placed h all = all
 with_first at (Some token) placed h all = (h token refl, all)
 
-behind_all : (at : ℕ) (token : Option Token) (rest : Result (List PlacedToken) TokenFault) (placed : List PlacedToken) → ((t : Token) → token ≡ Some t → IsToken t) → ((left : List PlacedToken) → rest ≡ Ok left → AreTokens left) → behind at token rest ≡ Ok placed → AreTokens placed
-behind_all at token (Err fault) placed h all e = absurd (cc e)
-behind_all at token (Ok left) placed h all e = let q : with_front at token left ≡ placed = cc e in subst AreTokens q (with_first at token left h (all left refl))
+after_all : (at : ℕ) (token : Option Token) (rest : Result (List PlacedToken) TokenFault) (placed : List PlacedToken) → ((t : Token) → token ≡ Some t → IsToken t) → ((left : List PlacedToken) → rest ≡ Ok left → AreTokens left) → after_token at token rest ≡ Ok placed → AreTokens placed
+after_all at token (Err fault) placed h all e = absurd (cc e)
+after_all at token (Ok left) placed h all e = let q : with_front at token left ≡ placed = cc e in subst AreTokens q (with_first at token left h (all left refl))
 
 all_are : {at depth : ℕ} {text : List ℕ} {answer : Result (List PlacedToken) TokenFault} → ReadsAs at depth text answer → (placed : List PlacedToken) → answer ≡ Ok placed → AreTokens placed
 all_are at_end placed e = let q : [] ≡ placed = cc e in subst AreTokens q tt
@@ -77,7 +77,7 @@ all_are (no_form some none) placed e = absurd (cc e)
 all_are (bad_token piece longest bad) placed e = absurd (cc e)
 all_are (too_deep piece token longest good deep) placed e = absurd (cc e)
 all_are {at} {depth} {text} (goes_on piece token deeper rest longest good open_there more is) placed e =
-    behind_all at token rest placed (λ t q. token_is at piece.shape (take piece.length text) t longest.form (good ∙ ap (λ (o : Option Token). let r : Result (Option Token) TokenFault = Ok o in r) q)) (all_are more) (sym is ∙ e)
+    after_all at token rest placed (λ t q. token_is at piece.shape (take piece.length text) t longest.form (good ∙ ap (λ (o : Option Token). let r : Result (Option Token) TokenFault = Ok o in r) q)) (all_are more) (sym is ∙ e)
 
 pub tokens_formed : (text : List ℕ) (placed : List PlacedToken) → tokens_of text ≡ Ok placed → AreTokens placed
 tokens_formed text placed e = all_are (reads text) placed e

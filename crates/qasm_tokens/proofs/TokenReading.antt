@@ -7,8 +7,8 @@ use Rattle.qasm_tokens.specs.declared.token_fault.TokenFault.{TokenFault}
 use Rattle.qasm_tokens.specs.declared.token_fault.TokenFault.TheVariants.{Lex}
 use Rattle.qasm_tokens.specs.declared.piece.Piece.{Piece}
 use Rattle.qasm_tokens.specs.Pieces.{piece_of}
-use Rattle.qasm_tokens.specs.Tokens.{token_of, open_behind, tokens_from, tokens_of}
-use Rattle.qasm_tokens.specs.Scan.{behind}
+use Rattle.qasm_tokens.specs.Tokens.{token_of, open_after, tokens_from, tokens_of}
+use Rattle.qasm_tokens.specs.Scan.{after_token}
 use Rattle.qasm_tokens.specs.TokenForms.{IsLongest, HasNoForm}
 use Rattle.qasm_tokens.specs.TokenReading.{ReadsAs, at_end, no_form, bad_token, too_deep, goes_on}
 use Rattle.qasm_tokens.proofs.Pieces.{piece_stands}
@@ -36,7 +36,7 @@ exact {at} {depth} {text} (no_form some none) = steps.no_piece at depth text som
 exact {at} {depth} {text} (bad_token {fault = fault} piece longest bad) = steps.bad_token at depth text piece fault (only_longest text piece longest) bad
 exact {at} {depth} {text} (too_deep {fault = fault} piece token longest good deep) = steps.too_deep at depth text piece token fault (only_longest text piece longest) good deep
 exact {at} {depth} {text} (goes_on piece token deeper rest longest good open_there reads is) =
-    (steps.reads_on at depth deeper text piece token (only_longest text piece longest) good open_there).reads ∙ ap (behind at token) (exact reads) ∙ sym is
+    (steps.reads_on at depth deeper text piece token (only_longest text piece longest) good open_there).reads ∙ ap (after_token at token) (exact reads) ∙ sym is
 
 abbrev Reading : ℕ → ℕ → List ℕ → Type 0
 Reading at depth text = ReadsAs at depth text (tokens_from at depth 0 text)
@@ -46,7 +46,7 @@ as_is at depth text answer e r = subst (ReadsAs at depth text) (sym e) r
 
 -- one piece, where shorter texts read so
 module _ (n : ℕ) (shorter : (at depth : ℕ) (text : List ℕ) → length text ≤ n → Reading at depth text) (at depth : ℕ) (text : List ℕ) (fits : length text ≤ suc n) (some : 0 < length text) where
-  by_depth : (piece : Piece) (token : Option Token) (there : Result ℕ TokenFault) → piece_of text ≡ Some piece → token_of at piece.shape (take piece.length text) ≡ Ok token → open_behind at depth piece.shape ≡ there → Reading at depth text
+  by_depth : (piece : Piece) (token : Option Token) (there : Result ℕ TokenFault) → piece_of text ≡ Some piece → token_of at piece.shape (take piece.length text) ≡ Ok token → open_after at depth piece.shape ≡ there → Reading at depth text
   by_depth piece token (Err fault) e good there = as_is at depth text (Err fault) (steps.too_deep at depth text piece token fault e good there) (too_deep piece token (longest_is text (Some piece) e) good there)
   by_depth piece token (Ok deeper) e good there =
       let stands = piece_stands text piece e in
@@ -55,7 +55,7 @@ module _ (n : ℕ) (shorter : (at depth : ℕ) (text : List ℕ) → length text
 
   by_token : (piece : Piece) (token : Result (Option Token) TokenFault) → piece_of text ≡ Some piece → token_of at piece.shape (take piece.length text) ≡ token → Reading at depth text
   by_token piece (Err fault) e bad = as_is at depth text (Err fault) (steps.bad_token at depth text piece fault e bad) (bad_token piece (longest_is text (Some piece) e) bad)
-  by_token piece (Ok token) e good = by_depth piece token (open_behind at depth piece.shape) e good refl
+  by_token piece (Ok token) e good = by_depth piece token (open_after at depth piece.shape) e good refl
 
   by_piece : (found : Option Piece) → piece_of text ≡ found → Reading at depth text
   by_piece None e = as_is at depth text (Err (Lex at)) (steps.no_piece at depth text some e) (no_form some (longest_is text None e))

@@ -29,14 +29,14 @@ HasShape shapes.Text text = 2 ≤ length text
 HasShape shape text = Unit {0}
 
 -- what a text reads as whose first piece is this token, or none, and whose rest reads so
-abbrev pub behind : ℕ → Option Token → Result (List PlacedToken) TokenFault → Result (List PlacedToken) TokenFault
-behind at token rest = rest >>= λ placed. Ok (with_front at token placed)
+abbrev pub after_token : ℕ → Option Token → Result (List PlacedToken) TokenFault → Result (List PlacedToken) TokenFault
+after_token at token rest = rest >>= λ placed. Ok (with_front at token placed)
 
 -- a text reads as this first piece and the bytes after it do
 pub record Reads (at depth : ℕ) (text : List ℕ) (token : Option Token) (len deeper : ℕ) : Type 0 where
   pub some : 0 < len
   pub within : len ≤ length text
-  pub reads : tokens_from at depth 0 text ≡ behind at token (tokens_from (at + len) deeper 0 (drop len text))
+  pub reads : tokens_from at depth 0 text ≡ after_token at token (tokens_from (at + len) deeper 0 (drop len text))
 
 -- what a text reads as from a place on, where so many parentheses are open
 abbrev pub rest_from : List ℕ → ℕ → ℕ → Result (List PlacedToken) TokenFault
@@ -45,7 +45,7 @@ rest_from text at depth = tokens_from at depth 0 (drop at text)
 -- a text reads so with this token first and the rest after it
 abbrev pub IsNext : Option PlacedLexeme → Result (List PlacedToken) TokenFault → Result (List PlacedToken) TokenFault → Type 0
 IsNext None reads rest = reads ≡ Ok []
-IsNext (Some placed) reads rest = reads ≡ behind placed.at (Some (token_seen placed.lexeme)) rest
+IsNext (Some placed) reads rest = reads ≡ after_token placed.at (Some (token_seen placed.lexeme)) rest
 
 -- no real begins at a place from one to the other
 abbrev pub HasNoReal : List ℕ → ℕ → ℕ → Type 0

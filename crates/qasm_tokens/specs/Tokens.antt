@@ -75,18 +75,18 @@ token_of at shapes.Text text = short_token at (tokens.Text (take (length text - 
 token_of at (shapes.Sign sign) text = Ok (Some (tokens.Sign sign))
 
 -- How many parentheses are open after a sign, at most 100. A closing one closes one where one is open.
-unfoldable pub open_behind_sign : ℕ → ℕ → Sign → Result ℕ TokenFault
-open_behind_sign at depth LeftParenthesis = if nat_lt depth 100 then Ok (depth + 1) else Err (Deep at)
-open_behind_sign at depth RightParenthesis = Ok (depth - 1)
-open_behind_sign at depth Semicolon = Ok 0
-open_behind_sign at depth LeftBrace = Ok 0
-open_behind_sign at depth RightBrace = Ok 0
-open_behind_sign at depth sign = Ok depth
+unfoldable pub open_after_sign : ℕ → ℕ → Sign → Result ℕ TokenFault
+open_after_sign at depth LeftParenthesis = if nat_lt depth 100 then Ok (depth + 1) else Err (Deep at)
+open_after_sign at depth RightParenthesis = Ok (depth - 1)
+open_after_sign at depth Semicolon = Ok 0
+open_after_sign at depth LeftBrace = Ok 0
+open_after_sign at depth RightBrace = Ok 0
+open_after_sign at depth sign = Ok depth
 
 -- and after any piece
-unfoldable pub open_behind : ℕ → ℕ → Shape → Result ℕ TokenFault
-open_behind at depth (shapes.Sign sign) = open_behind_sign at depth sign
-open_behind at depth shape = Ok depth
+unfoldable pub open_after : ℕ → ℕ → Shape → Result ℕ TokenFault
+open_after at depth (shapes.Sign sign) = open_after_sign at depth sign
+open_after at depth shape = Ok depth
 
 -- tokens after this first one, if there is one
 abbrev pub with_front : ℕ → Option Token → List PlacedToken → List PlacedToken
@@ -101,7 +101,7 @@ tokens_from at depth (suc inside) (b ∷ text) = tokens_from (at + 1) depth insi
 tokens_from at depth zero (b ∷ text) = do
   piece ← ok_or (piece_of (b ∷ text)) (Lex at)
   token ← token_of at piece.shape (take piece.length (b ∷ text))
-  deeper ← open_behind at depth piece.shape
+  deeper ← open_after at depth piece.shape
   placed ← tokens_from (at + 1) deeper (piece.length - 1) text
   Ok (with_front at token placed)
 

@@ -3,9 +3,9 @@
 ghost use Rattle.std.specs.Prelude.{◌≡◌, ◌<◌, ◌≤◌, ℕ, List, [], length, drop, Ok, Err, IfOk, IfSome, MatchResult};
 ghost use Rattle.std.specs.Option.{option_map};
 ghost use Rattle.std.specs.Result.{result_err};
-ghost use Rattle.qasm_tokens.specs.Tokens.{open_behind_sign, open_behind, tokens_from, tokens_of};
+ghost use Rattle.qasm_tokens.specs.Tokens.{open_after_sign, open_after, tokens_from, tokens_of};
 ghost use Rattle.qasm_tokens.specs.Pieces.{real_len};
-ghost use Rattle.qasm_tokens.specs.Scan.{token_seen, behind, Reads, rest_from, IsNext, HasNoReal};
+ghost use Rattle.qasm_tokens.specs.Scan.{token_seen, after_token, Reads, rest_from, IsNext, HasNoReal};
 
 use crate::lexeme::{Lexeme, PlacedLexeme, lexeme_of};
 use crate::piece::{Shape, digits_len, piece_of, real_len};
@@ -13,9 +13,9 @@ use crate::token::Sign;
 use crate::token_fault::TokenFault;
 
 /// How many parentheses are open after a sign.
-#[tactic(auto, unfolding(crate::specs::Tokens::open_behind_sign))]
-fn open_behind_sign(at: u64, depth: u32, sign: Sign) -> Result<u32, TokenFault>
-    ensures { result ≡ open_behind_sign at depth sign }
+#[tactic(auto, unfolding(crate::specs::Tokens::open_after_sign))]
+fn open_after_sign(at: u64, depth: u32, sign: Sign) -> Result<u32, TokenFault>
+    ensures { result ≡ open_after_sign at depth sign }
 {
     match sign {
         Sign::LeftParenthesis if depth < 100 => Ok(depth + 1),
@@ -27,12 +27,12 @@ fn open_behind_sign(at: u64, depth: u32, sign: Sign) -> Result<u32, TokenFault>
 }
 
 /// How many parentheses are open after a piece.
-#[tactic(auto, unfolding(crate::specs::Tokens::open_behind))]
-fn open_behind(at: u64, depth: u32, shape: Shape) -> Result<u32, TokenFault>
-    ensures { result ≡ open_behind at depth shape }
+#[tactic(auto, unfolding(crate::specs::Tokens::open_after))]
+fn open_after(at: u64, depth: u32, shape: Shape) -> Result<u32, TokenFault>
+    ensures { result ≡ open_after at depth shape }
 {
     match shape {
-        Shape::Sign(sign) => open_behind_sign(at, depth, sign),
+        Shape::Sign(sign) => open_after_sign(at, depth, sign),
         _ => Ok(depth),
     }
 }
@@ -57,7 +57,7 @@ fn first_step(at: u64, depth: u32, text: &[u8], real: usize) -> Result<Step, Tok
         return Err(TokenFault::Lex { at });
     };
     let lexeme = lexeme_of(at, piece.shape, &text[..piece.length])?;
-    let depth = open_behind(at, depth, piece.shape)?;
+    let depth = open_after(at, depth, piece.shape)?;
     Ok(Step {
         lexeme,
         length: piece.length,

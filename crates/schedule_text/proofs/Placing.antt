@@ -21,7 +21,8 @@ use Rattle.schedule_text.specs.Progress.{Opens, head_text, steps_text, capacity}
 use Rattle.schedule_text.specs.Standing.{AreIn}
 use Rattle.schedule_text.proofs.PlaceLines.{no_lists}
 use Rattle.step_rules.proofs.Accepted.{at_most_once}
-use Rattle.schedule_text.proofs.Counted.{all_once, counted, left_of, filled_once, filled_below, filled_length}
+use Rattle.step_rules.proofs.Counted.{all_once, counted}
+use Rattle.schedule_text.proofs.Counted.{left_of, filled_once, filled_below, filled_length}
 use Rattle.schedule_text.proofs.Rooms.{are_in, room_in, in_take, in_drop, in_both, in_capacity, fill, fill_length, fill_in, fill_order}
 
 -- the limit of a place that is no zone

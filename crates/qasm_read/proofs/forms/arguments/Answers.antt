@@ -1,6 +1,6 @@
 use Rattle.std.proofs.Common.{◌≡◌, true, false, sym, ◌∙◌}
 use Rattle.qasm_tokens.specs.declared.token.Sign.TheVariants.{Comma}
-use Rattle.qasm_read.specs.Reading.{comes, behind, argument_at, commas_at}
+use Rattle.qasm_read.specs.Reading.{comes, after_sign, argument_at, commas_at}
 use Rattle.qasm_read.proofs.Lists.{repeat_end}
 use Rattle.qasm_read.proofs.Loops.{commas_more, commas_none, handed_on, short_argument}
 use Rattle.qasm_read.proofs.forms.arguments.Goals as goal
@@ -20,5 +20,5 @@ loop-tokens-preserved g c =
 pub returns : goal.returns
 returns g c =
     let off : comes Comma c.loop-tokens.tokens ≡ false = cc in
-    let e = repeat_end (comes Comma) (behind Comma argument_at) short_argument c.loop-tokens.args.items c.loop-tokens.tokens off in
+    let e = repeat_end (comes Comma) (after_sign Comma argument_at) short_argument c.loop-tokens.args.items c.loop-tokens.tokens off in
     cc (e, c.from_vec.ensures)

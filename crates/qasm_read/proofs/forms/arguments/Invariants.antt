@@ -1,11 +1,11 @@
 use Rattle.std.proofs.Common.{◌≡◌, length}
 use Rattle.qasm_tokens.specs.declared.token.Sign.TheVariants.{Comma}
-use Rattle.qasm_read.specs.Reading.{argument_at, comes, behind, with_front, repeat_at, commas_at}
+use Rattle.qasm_read.specs.Reading.{argument_at, comes, after_sign, with_front, repeat_at, commas_at}
 use Rattle.qasm_read.proofs.forms.arguments.Given as goal
 
 -- those so far, and those that follow after commas
 abbrev pub invariant-loop-tokens : goal.invariant-loop-tokens
-invariant-loop-tokens g l = with_front l.args.items (repeat_at (comes Comma) (behind Comma argument_at) l.tokens) ≡ commas_at argument_at l.fn.tokens
+invariant-loop-tokens g l = with_front l.args.items (repeat_at (comes Comma) (after_sign Comma argument_at) l.tokens) ≡ commas_at argument_at l.fn.tokens
 
 abbrev pub decreases-loop-tokens : goal.decreases-loop-tokens
 decreases-loop-tokens g l = length l.tokens.placed

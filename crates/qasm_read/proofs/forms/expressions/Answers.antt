@@ -1,6 +1,6 @@
 use Rattle.std.proofs.Common.{◌≡◌, true, false, sym, ◌∙◌}
 use Rattle.qasm_tokens.specs.declared.token.Sign.TheVariants.{Comma}
-use Rattle.qasm_read.specs.Reading.{comes, behind, commas_at}
+use Rattle.qasm_read.specs.Reading.{comes, after_sign, commas_at}
 use Rattle.qasm_read.specs.Expressions.{exp_at}
 use Rattle.qasm_read.proofs.Lists.{repeat_end}
 use Rattle.qasm_read.proofs.Loops.{commas_more, commas_none, handed_on, short_exp}
@@ -24,5 +24,5 @@ loop-alloc-smaller g c = short_exp c.loop-alloc.tokens c.in_ok-expression-2.fiel
 pub returns : goal.returns
 returns g c =
     let off : comes Comma c.loop-alloc.tokens ≡ false = cc in
-    let e = repeat_end (comes Comma) (behind Comma exp_at) short_exp c.loop-alloc.exps.items c.loop-alloc.tokens off in
+    let e = repeat_end (comes Comma) (after_sign Comma exp_at) short_exp c.loop-alloc.exps.items c.loop-alloc.tokens off in
     cc (e, c.from_vec.ensures)

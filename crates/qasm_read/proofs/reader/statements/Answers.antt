@@ -3,7 +3,7 @@ use Rattle.qasm_read.specs.declared.statement.Placed.{Placed}
 use Rattle.qasm_read.specs.Forms.{each, place_of}
 use Rattle.qasm_read.specs.Reading.{statement_at}
 use Rattle.qasm_read.specs.Expressions.{exp_at}
-use Rattle.qasm_read.specs.Program.{AnswersBehind}
+use Rattle.qasm_read.specs.Program.{AnswersAfter}
 use Rattle.qasm_read.proofs.Readers.{Took}
 use Rattle.qasm_read.proofs.ProgramLaws.{other_form, cut_placed, short_statement, one_more, ends_well, ends_large, stops_large, stops_here}
 use Rattle.qasm_read.proofs.reader.statements.Goals as goal
@@ -38,4 +38,4 @@ pub returns-in-None-large : goal.returns-in-None-large
 returns-in-None-large g c =
     let end : place_of c.loop-at.tokens.placed ≡ None = cc in
     let none : c.loop-at.tokens.large ≡ None = cc in
-    subst (λ (ss : List Placed). AnswersBehind c.args.tokens.now.placed (Ok ss)) (sym c.from_vec.ensures) (ends_well c.loop-at.statements.items c.args.tokens.now c.loop-at.tokens c.requires c.loop-at.invariant end none)
+    subst (λ (ss : List Placed). AnswersAfter c.args.tokens.now.placed (Ok ss)) (sym c.from_vec.ensures) (ends_well c.loop-at.statements.items c.args.tokens.now c.loop-at.tokens c.requires c.loop-at.invariant end none)
