@@ -1,0 +1,17 @@
+use Rattle.std.proofs.Common.{sym, ◌∙◌}
+use Rattle.circuit_core.specs.declared.op.Op.TheVariants as op
+use Rattle.gate_expand.specs.Making.{with_op}
+use Rattle.gate_expand.specs.Operations.{spread, measure_made}
+use Rattle.gate_expand.proofs.Refusals.{leaves_on}
+use Rattle.gate_expand.proofs.Counting.{spread_stops}
+use Rattle.gate_expand.proofs.expansion.make_measures.Goals as goal
+
+pub returns-in_err-push : goal.returns-in_err-push
+returns-in_err-push c =
+    leaves_on c.from_residual.result c.in_err-push.field-0.0 c.push.new.self c.push.new.self
+    (with_op (op.Measure (record { 0 = c.at.result }) (record { 0 = c.at-in-loop-index.result }) c.args.cond) c.loop-index.made)
+    (spread (measure_made c.args.cond c.args.qubits c.args.bits) 0 c.args.times c.args.made.now)
+    c.from_residual.ensures.1 c.in_err-push.ensures
+    (λ e. sym c.loop-index.invariant
+    ∙ spread_stops (measure_made c.args.cond c.args.qubits c.args.bits) c.loop-index.index c.args.times c.loop-index.made c.in_err-push.field-0.0 c.loop-index-test.true
+    (rw (c.at.ensures, c.at-in-loop-index.ensures) at e))

@@ -1,0 +1,52 @@
+//! Why a program has no circuit.
+
+use thiserror::Error;
+
+/// What there are too many of.
+#[derive(Clone, Copy, Debug, PartialEq, Eq)]
+pub enum Counted {
+    Qubits,
+    Bits,
+    Formals,
+    Applications,
+    Ops,
+    Nodes,
+}
+
+/// The first thing that is wrong with a program, and the byte where its statement begins.
+#[derive(Clone, Copy, Debug, PartialEq, Eq, Error)]
+pub enum ExpandFault {
+    /// A file other than `qelib1.inc` is included.
+    #[error("byte {at}: include")]
+    Include { at: u64 },
+    #[error("byte {at}: undeclared")]
+    Undeclared { at: u64 },
+    #[error("byte {at}: redeclared")]
+    Redeclared { at: u64 },
+    /// A gate where a register is meant, or another kind of register.
+    #[error("byte {at}: wrong kind")]
+    Kind { at: u64 },
+    #[error("byte {at}: parameters")]
+    Params { at: u64 },
+    #[error("byte {at}: arguments")]
+    Args { at: u64 },
+    #[error("byte {at}: index")]
+    Index { at: u64 },
+    #[error("byte {at}: size zero")]
+    Zero { at: u64 },
+    #[error("byte {at}: sizes")]
+    Sizes { at: u64 },
+    #[error("byte {at}: repeated qubit")]
+    Repeated { at: u64 },
+    #[error("byte {at}: condition on its own register")]
+    SelfMeasure { at: u64 },
+    /// An opaque gate on three or more qubits is applied.
+    #[error("byte {at}: wide operation")]
+    WideOp { at: u64 },
+    #[error("byte {at}: large angle")]
+    AngleLarge { at: u64 },
+    #[error("byte {at}: too many {what:?}")]
+    TooMany { what: Counted, at: u64 },
+    #[error("no memory")]
+    NoMemory,
+}
