@@ -1,0 +1,7 @@
+use Rattle.std.proofs.Common.{◌≡◌, drop}
+use Rattle.toml.specs.View.{items_view}
+use Rattle.trap_read.specs.Keys.{all_items, is_table}
+use Rattle.trap_read.proofs.row.are_tables.Given as goal
+
+abbrev pub invariant-loop-value : goal.invariant-loop-value
+invariant-loop-value l = all_items is_table (items_view (drop l.value-index l.values)) ≡ all_items is_table (items_view l.values)

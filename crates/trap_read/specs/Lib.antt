@@ -1,0 +1,5 @@
+pub mod Answers
+pub mod Keys
+pub mod Rows
+pub mod Labels
+pub mod TrapFile
