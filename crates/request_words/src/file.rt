@@ -1,0 +1,12 @@
+//! The files of a request.
+
+/// A file that a request reads.
+#[derive(Clone, Copy, Debug, PartialEq, Eq)]
+pub enum File {
+    /// The circuit.
+    Circuit,
+    /// The trap.
+    Trap,
+    /// The schedule that is to be judged.
+    Schedule,
+}

@@ -1,0 +1,54 @@
+-- The status and the line of each answer.
+use Rattle.std.specs.Prelude.{ℕ, List, [], ◌∷◌, codes, decimal}
+use Rattle.request_words.specs.declared.file.File.{File}
+use Rattle.request_words.specs.declared.file.File.TheVariants as files
+use Rattle.run_answers.specs.declared.answer.Answer.{Answer}
+use Rattle.run_answers.specs.declared.answer.Answer.TheVariants as answers
+use Rattle.run_answers.specs.Names.{Names}
+use Rattle.run_answers.specs.Line.{line_text}
+use Rattle.run_answers.specs.CircuitLines.{qasm_said, expand_said}
+use Rattle.run_answers.specs.TrapLines.{trap_said}
+use Rattle.run_answers.specs.PlaceLines.{place_said}
+use Rattle.run_answers.specs.ScheduleLines.{play_said}
+
+-- the status that the program ends with
+abbrev pub status_of : Answer → ℕ
+status_of answers.Ok = 0
+status_of answers.Usage = 2
+status_of (answers.ReadFault file) = 3
+status_of (answers.Long file) = 3
+status_of (answers.Qasm fault) = 4
+status_of (answers.Expand fault) = 4
+status_of (answers.Trap fault) = 5
+status_of (answers.Place fault) = 6
+status_of (answers.Text line) = 11
+status_of (answers.Illegal fault) = 11
+status_of answers.WriteFault = 10
+status_of answers.NoMemory = 12
+status_of answers.Unbuilt = 13
+
+-- the word for a file
+abbrev pub file_word : File → List ℕ
+file_word files.Circuit = codes "circuit"
+file_word files.Trap = codes "trap"
+file_word files.Schedule = codes "schedule"
+
+-- what is said of an answer, in pieces; nothing where all went well
+abbrev pub said : Names → Answer → List (List ℕ)
+said names answers.Ok = []
+said names answers.Usage = codes "usage" ∷ []
+said names (answers.ReadFault file) = codes "cannot read " ∷ file_word file ∷ []
+said names (answers.Long file) = file_word file ∷ codes " is too long" ∷ []
+said names (answers.Qasm fault) = qasm_said fault
+said names (answers.Expand fault) = expand_said fault
+said names (answers.Trap fault) = trap_said fault
+said names (answers.Place fault) = place_said names fault
+said names (answers.Text line) = codes "schedule line " ∷ decimal line ∷ []
+said names (answers.Illegal fault) = play_said fault
+said names answers.WriteFault = codes "cannot write" ∷ []
+said names answers.NoMemory = codes "no memory" ∷ []
+said names answers.Unbuilt = codes "not built" ∷ []
+
+-- the line of an answer, none where all went well
+abbrev pub fault_line : Names → Answer → List ℕ
+fault_line names answer = line_text (said names answer)

@@ -1,0 +1,7 @@
+pub mod Line
+pub mod Names
+pub mod CircuitLines
+pub mod TrapLines
+pub mod PlaceLines
+pub mod ScheduleLines
+pub mod Answer

@@ -1,0 +1,19 @@
+//! How a run of the program ends: its answers, their exit statuses, and the lines that are written for them.
+#![tactic(auto)]
+
+mod answer;
+mod circuit_lines;
+mod line;
+mod names;
+mod piece;
+mod place_lines;
+mod schedule_lines;
+#[cfg(test)]
+mod tests;
+mod trap_lines;
+
+pub use answer::Answer;
+pub use line::Line;
+pub use names::Names;
+pub use piece::Piece;
+pub use request_words::File;

@@ -1,0 +1,148 @@
+//! Texts of schedules, and how they are judged.
+
+ghost use Rattle.std.specs.Prelude.{IsTrue, All, IfOk};
+ghost use Rattle.trap_model.specs.Names.{is_name};
+ghost use Rattle.trap_model.specs.Build.{AreNames};
+
+use crate::{CheckFault, check, one_judgement};
+use circuit_core::{Circuit, Op, Reg};
+use qc_base::{Name, NoMemory, OpId, Qubit};
+use schedule_play::PlayFault;
+use std::alloc::Global;
+use std::process::Abort;
+use std::test::Fail;
+use step_rules::Rule;
+use trap_model::{SegmentPart, Trap, TrapParts, ZonePart};
+
+fn zones(alloc: Global) -> Result<Vec<ZonePart>, NoMemory>
+    ensures { IfOk result (λ zones. All (λ zone. IsTrue (is_name zone.name)) zones.items) }
+{
+    let zone = ZonePart {
+        name: Name::from_bytes(alloc, b"A")?,
+        capacity: 4,
+        one: true,
+        two: true,
+        read: true,
+    };
+    let mut zones = Vec::new(alloc);
+    zones.push(zone)?;
+    Ok(zones)
+}
+
+fn no_segments(alloc: Global) -> Vec<SegmentPart>
+    ensures { All (λ segment. IsTrue (is_name segment.name)) result.items }
+{
+    Vec::new(alloc)
+}
+
+fn no_junctions(alloc: Global) -> Vec<Name>
+    ensures { AreNames result.items }
+{
+    Vec::new(alloc)
+}
+
+/// One zone with room for four ions.
+fn one_zone(alloc: Global) -> Result<Trap, Fail> {
+    let parts = TrapParts {
+        zones: zones(alloc)?,
+        segments: no_segments(alloc),
+        junctions: no_junctions(alloc),
+        joins: Vec::new(alloc),
+    };
+    let trap = Trap::build(alloc, parts)?;
+    Ok(trap)
+}
+
+/// Two operations on a pair of qubits, of which the first has to come before the second.
+fn ordered(alloc: Global) -> Result<Circuit, NoMemory> {
+    let mut ops = Vec::new(alloc);
+    ops.push(Op::Cx {
+        control: Qubit(0),
+        target: Qubit(1),
+        cond: None,
+    })?;
+    ops.push(Op::Cx {
+        control: Qubit(1),
+        target: Qubit(0),
+        cond: None,
+    })?;
+    let name = Name::from_bytes(alloc, b"q")?;
+    let mut qregs = Vec::new(alloc);
+    qregs.push(Reg { name, size: 2 })?;
+    Ok(Circuit::new(qregs, Vec::new(alloc), ops))
+}
+
+/// A text with this body.
+fn with_body(alloc: Global, body: &[u8]) -> Result<Vec<u8>, NoMemory> {
+    let mut text = Vec::from_slice(alloc, b"qccd schedule 1\nplace A q[0] q[1]\n")?;
+    text.extend_from_slice(body)?;
+    Ok(text)
+}
+
+/// Whether the text with each body has this fault.
+fn faults(rt: &impl Abort, alloc: Global, rows: &[(&[u8], CheckFault)]) -> Result<(), Fail> {
+    let trap = one_zone(alloc)?;
+    let circuit = ordered(alloc)?;
+    for (body, fault) in rows {
+        let text = with_body(alloc, body)?;
+        assert!(rt; check(alloc, &trap, &circuit, &text).err() == Some(*fault));
+    }
+    Ok(())
+}
+
+#[test]
+fn a_legal_schedule(rt: HostRuntime) -> Result<(), Fail> {
+    let alloc = rt.alloc();
+    let trap = one_zone(alloc)?;
+    let circuit = ordered(alloc)?;
+    let body =
+        b"steps 3\nstep 1\nop A 0 ions 0 1 : CX q[0],q[1];\nstep 2\nstep 3\nop A 1 ions 1 0 : CX q[1],q[0];\nend\n";
+    let text = with_body(alloc, body)?;
+    match check(alloc, &trap, &circuit, &text) {
+        Ok(checked) => {
+            assert!(rt; checked.placement.lists().len() == 1);
+            assert!(rt; checked.schedule.steps().len() == 3);
+        }
+        Err(_) => assert!(rt; false),
+    }
+    one_judgement();
+    Ok(())
+}
+
+#[test]
+fn texts_with_a_bad_line(rt: HostRuntime) -> Result<(), Fail> {
+    let rows: [(&[u8], CheckFault); 4] = [
+        (b"", CheckFault::Text(3)),
+        (b"steps 01\nend\n", CheckFault::Text(3)),
+        (b"steps 1\nend\n", CheckFault::Text(4)),
+        (b"steps 0\nend\n\n", CheckFault::Text(5)),
+    ];
+    faults(&rt, rt.alloc(), &rows)
+}
+
+#[test]
+fn schedules_that_are_not_legal(rt: HostRuntime) -> Result<(), Fail> {
+    let rows: [(&[u8], CheckFault); 3] = [
+        (
+            b"steps 1\nstep 1\nswap A 1\nend\n",
+            CheckFault::Illegal(PlayFault::Broken {
+                step: 1,
+                action: 1,
+                rule: Rule::Index,
+            }),
+        ),
+        (
+            b"steps 1\nstep 1\nop A 1 ions 1 0 : CX q[1],q[0];\nend\n",
+            CheckFault::Illegal(PlayFault::Early {
+                step: 1,
+                op: OpId(1),
+                needs: OpId(0),
+            }),
+        ),
+        (
+            b"steps 0\nend\n",
+            CheckFault::Illegal(PlayFault::Missing { op: OpId(0) }),
+        ),
+    ];
+    faults(&rt, rt.alloc(), &rows)
+}
