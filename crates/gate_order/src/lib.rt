@@ -1,0 +1,12 @@
+//! Which operations of a circuit are ready to be performed.
+#![tactic(auto)]
+
+mod after;
+mod laws;
+mod progress;
+mod ready_ops;
+#[cfg(test)]
+mod tests;
+
+pub use laws::all_are_done_where_none_is_ready;
+pub use ready_ops::Ready;

@@ -1,0 +1,5 @@
+pub mod Rows
+pub mod Ends
+pub mod Expanding
+pub mod Walking
+pub mod Following

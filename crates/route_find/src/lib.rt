@@ -1,0 +1,14 @@
+//! Shortest ways through a trap: walks of channels, and distances.
+#![tactic(auto)]
+
+mod distances;
+mod numbers;
+mod reach;
+mod routes;
+mod search;
+#[cfg(test)]
+mod tests;
+
+pub use distances::Distances;
+pub use reach::Reach;
+pub use routes::{Route, route};
