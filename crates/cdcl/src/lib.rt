@@ -1,0 +1,20 @@
+//! A solver for clauses that learns from conflicts and logs each clause that it learns.
+#![tactic(auto)]
+
+mod analysis;
+mod pick;
+mod propagation;
+mod recent;
+mod restarts;
+mod solver;
+mod status;
+#[cfg(test)]
+mod tests;
+mod values;
+mod verdict;
+
+pub use pick::Pick;
+pub use recent::Recent;
+pub use solver::Solver;
+pub use values::{Assigned, Values};
+pub use verdict::Verdict;
