@@ -1,23 +1,14 @@
--- Stages have one outcome, and a file is read as its text says.
-use Rattle.std.proofs.Common.{◌≡◌, List, ℕ, Option, Some, None, Result, Ok, Err, refl, sym, ap, ◌∙◌, subst}
-use Rattle.std.specs.Prelude.{IfSome}
-use Rattle.std.proofs.lemmas.Option.{same_Some, none-some}
-use Rattle.qccd.specs.declared.answer.File.{File}
-use Rattle.qccd.specs.declared.answer.Answer.{Answer}
-use Rattle.qccd.specs.declared.answer.Answer.TheVariants as answers
-use Rattle.circuit_core.specs.Circuit.{CircuitValue}
-use Rattle.qasm_read.specs.declared.fault.QasmFault.{QasmFault}
-use Rattle.qasm_read.specs.declared.fault.QasmFault.TheVariants as faults
-use Rattle.qasm_read.specs.declared.statement.Placed.{Placed}
-use Rattle.qasm_read.specs.Program.{UnlessMemory}
-use Rattle.qasm_read.specs.Read.{IsReading}
+-- Stages have one outcome, and what they hand on.
+use Rattle.std.proofs.Common.{◌≡◌, List, ℕ, Option, Result, Ok, Err, refl, sym, ap, ◌∙◌, subst, inl, inr}
 use Rattle.qasm_read.proofs.OneReading.{one_reading}
-use Rattle.qccd.specs.Flat.{flat, circuit_of}
-use Rattle.qccd.specs.declared.answer.File.TheVariants as files
-use Rattle.qccd.specs.Stages.{GoesOn, Then}
-use Rattle.qccd.specs.Prepare.{bytes_of, Reads, FileOf, or_qasm, refusal_of, ProgramOf, CircuitOf}
-use Rattle.qccd.specs.Run.{StopsAt}
-use Rattle.std.specs.Option.{ok_or}
+use Rattle.run_answers.specs.declared.answer.Answer.{Answer}
+use Rattle.run_answers.specs.declared.answer.Answer.TheVariants as answers
+use Rattle.qccd.specs.Work.{Work}
+use Rattle.qccd.specs.Stages.{GoesOn, Then, As}
+use Rattle.qccd.specs.Prepare.{CircuitOf, TrapOf, InputsOf}
+use Rattle.qccd.specs.Loading.{Reached, Finishes}
+
+-- ---- one outcome
 
 -- a stage has at most one outcome
 abbrev pub IsOne : {X : Type 0} → (Result X Answer → Type 0) → Type 0
@@ -31,87 +22,52 @@ pub then-one : {X Y : Type 0} (first : Result X Answer → Type 0) (next : X →
 then-one first next one one_next a b p q =
     goes_on-one next p.given a b one_next p.goes_on (subst (λ given. GoesOn next given b) (sym (one p.given q.given p.is q.is)) q.goes_on)
 
-reads-one : {X : Type 0} (Spells : List ℕ → X → Type 0) (bytes : List ℕ) → IsOne (Reads Spells bytes)
-reads-one Spells bytes (Ok x) (Ok y) p q = let same = q.1 x p.0 in cc
-reads-one Spells bytes (Ok x) (Err answer) p q = absurd (q.1 x p.0)
-reads-one Spells bytes (Err answer) (Ok x) p q = absurd (p.1 x q.0)
-reads-one Spells bytes (Err a) (Err b) p q = let same = p.0 ∙ sym q.0 in cc
-
-pub file_of-one : {X : Type 0} (file : File) (Spells : List ℕ → X → Type 0) (content : Option (List ℕ)) → IsOne (FileOf file Spells content)
-file_of-one file Spells content = then-one _ _ (λ a b p q. p ∙ sym q) (reads-one Spells)
-
-program_of-one : (bytes : List ℕ) → IsOne (ProgramOf bytes)
-program_of-one bytes a b p q = p.outcome_is ∙ ap or_qasm (one_reading bytes p.reading q.reading p.is q.is) ∙ sym q.outcome_is
+pub as-one : {R X : Type 0} (judges : R → Type 0) (see : R → Result X Answer) → ((a b : R) → judges a → judges b → a ≡ b) → IsOne (As judges see)
+as-one judges see one a b p q = p.outcome_is ∙ ap see (one p.judgement q.judgement p.is q.is) ∙ sym q.outcome_is
 
 pub circuit_of-one : (content : Option (List ℕ)) → IsOne (CircuitOf content)
-circuit_of-one content a b p q = then-one _ _ (λ a b p q. p ∙ sym q) (λ bytes. then-one _ _ (program_of-one bytes) (λ program a b p q. p ∙ sym q)) a b p.stages q.stages
+circuit_of-one content = then-one _ _ (λ a b p q. p ∙ sym q) (λ bytes. then-one _ _ (as-one _ _ (one_reading bytes)) (λ program a b p q. p ∙ sym q))
 
--- ---- the circuit of a file
+pub trap_of-one : (content : Option (List ℕ)) → IsOne (TrapOf content)
+trap_of-one content = then-one _ _ (λ a b p q. p ∙ sym q) (λ bytes a b p q. p ∙ sym q)
 
-pub circuit_is : (content : Option (List ℕ)) (bytes shown : List ℕ) (program : List Placed) (outcome : Result CircuitValue Answer) → bytes_of files.Circuit content ≡ Ok bytes → shown ≡ bytes
-    → IsReading shown (Ok program) → outcome ≡ circuit_of program → CircuitOf content outcome
-circuit_is content bytes shown program outcome whole same reading is = record {
-  stages = record {
-    given = Ok bytes;
-    is = sym whole;
-    goes_on = record {
-      given = Ok program;
-      is = record { reading = Ok program; is = subst (λ (b : List ℕ). IsReading b (Ok program)) same reading; outcome_is = refl };
-      goes_on = is;
-    };
-  };
-}
+pub inputs_of-one : (circuit_file trap_file : Option (List ℕ)) → IsOne (InputsOf circuit_file trap_file)
+inputs_of-one circuit_file trap_file = then-one _ _ (circuit_of-one circuit_file) (λ circuit. then-one _ _ (trap_of-one trap_file) (λ file a b p q. p ∙ sym q))
 
-pub circuit_is_no_program : (content : Option (List ℕ)) (bytes shown : List ℕ) (fault : QasmFault) → bytes_of files.Circuit content ≡ Ok bytes → shown ≡ bytes
-    → IsReading shown (Err fault) → CircuitOf content (Err (answers.Qasm fault))
-circuit_is_no_program content bytes shown fault whole same reading = record {
-  stages = record {
-    given = Ok bytes;
-    is = sym whole;
-    goes_on = record {
-      given = Err (answers.Qasm fault);
-      is = record { reading = Err fault; is = subst (λ (b : List ℕ). IsReading b (Err fault)) same reading; outcome_is = refl };
-      goes_on = refl;
-    };
-  };
-}
+-- ---- one stage after another
 
-pub found_is : (shown program : List Placed) (read : Option CircuitValue) (outcome : Option CircuitValue) → shown ≡ program → read ≡ flat shown → read ≡ outcome → ok_or outcome answers.Unbuilt ≡ circuit_of program
-found_is shown program read outcome same is as_read = ap (λ (o : Option CircuitValue). ok_or o answers.Unbuilt) (sym as_read ∙ is ∙ ap flat same)
+pub then_ok : {X Y : Type 0} (first : Result X Answer → Type 0) (next : X → Result Y Answer → Type 0) (x : X) (outcome : Result Y Answer) → first (Ok x) → next x outcome → Then first next outcome
+then_ok first next x outcome is more = record { given = Ok x; is = is; goes_on = more }
 
-refused_by : (content : Option (List ℕ)) (bytes shown : List ℕ) (fault : QasmFault) → bytes_of files.Circuit content ≡ Ok bytes → shown ≡ bytes
-    → UnlessMemory (IsReading shown) (Err fault) → StopsAt files.Circuit CircuitOf content (refusal_of fault)
-refused_by content bytes shown faults.NoMemory whole same reading = tt
-refused_by content bytes shown faults.Header whole same reading = circuit_is_no_program content bytes shown faults.Header whole same reading
-refused_by content bytes shown (faults.Lex at) whole same reading = circuit_is_no_program content bytes shown (faults.Lex at) whole same reading
-refused_by content bytes shown (faults.LongWord at) whole same reading = circuit_is_no_program content bytes shown (faults.LongWord at) whole same reading
-refused_by content bytes shown (faults.BigNumber at) whole same reading = circuit_is_no_program content bytes shown (faults.BigNumber at) whole same reading
-refused_by content bytes shown (faults.Deep at) whole same reading = circuit_is_no_program content bytes shown (faults.Deep at) whole same reading
-refused_by content bytes shown (faults.Statement at) whole same reading = circuit_is_no_program content bytes shown (faults.Statement at) whole same reading
-refused_by content bytes shown (faults.Large at) whole same reading = circuit_is_no_program content bytes shown (faults.Large at) whole same reading
+pub then_err : {X Y : Type 0} (first : Result X Answer → Type 0) (next : X → Result Y Answer → Type 0) (answer : Answer) → first (Err answer) → Then first next (Err answer)
+then_err first next answer is = record { given = Err answer; is = is; goes_on = refl }
 
-pub refused : (content : Option (List ℕ)) (bytes shown : List ℕ) (fault : QasmFault) (answer : Answer) → bytes_of files.Circuit content ≡ Ok bytes → shown ≡ bytes
-    → UnlessMemory (IsReading shown) (Err fault) → answer ≡ refusal_of fault → StopsAt files.Circuit CircuitOf content answer
-refused content bytes shown fault answer whole same reading is = subst (StopsAt files.Circuit CircuitOf content) (sym is) (refused_by content bytes shown fault whole same reading)
+-- the same where memory may run out
+pub reached_ok : {X Y : Type 0} (first : Result X Answer → Type 0) (next : X → Result Y Answer → Type 0) (x : X) (outcome : Result Y Answer) → Reached first (Ok x) → Reached (next x) outcome → Reached (Then first next) outcome
+reached_ok first next x outcome (inl none) more = absurd cc
+reached_ok first next x outcome (inr is) (inl none) = inl none
+reached_ok first next x outcome (inr is) (inr more) = inr (then_ok first next x outcome is more)
 
--- ---- what a reader of bytes found
+same_answer : {X Y : Type 0} (a b : Answer) → ◌≡◌ {A = Result X Answer} (Err a) (Err b) → ◌≡◌ {A = Result Y Answer} (Err a) (Err b)
+same_answer a b e = cc
 
-reads_as : {X : Type 0} (Spells : List ℕ → X → Type 0) (bytes : List ℕ) (read : Option X) (x : X) → read ≡ Some x → IfSome read (Spells bytes) → ((other : X) → Spells bytes other → read ≡ Some other) → Reads Spells bytes (Ok x)
-reads_as Spells bytes None x e found only = absurd (none-some x e)
-reads_as Spells bytes (Some y) x e found only = (subst (Spells bytes) (same_Some y x e) found, λ other text. sym (same_Some x other (sym e ∙ only other text)))
+pub reached_err : {X Y : Type 0} (first : Result X Answer → Type 0) (next : X → Result Y Answer → Type 0) (answer : Answer) → Reached first (Err answer) → Reached (Then first next) (Err answer)
+reached_err {X} {Y} first next answer (inl none) = inl (same_answer {X = X} {Y = Y} answer answers.NoMemory none)
+reached_err first next answer (inr is) = inr (then_err first next answer is)
 
-pub file_is : {X : Type 0} (file : File) (Spells : List ℕ → X → Type 0) (content : Option (List ℕ)) (bytes shown : List ℕ) (read : Option X) (x : X) → bytes_of file content ≡ Ok bytes → shown ≡ bytes → read ≡ Some x
-    → IfSome read (Spells shown) → ((other : X) → Spells shown other → read ≡ Some other) → FileOf file Spells content (Ok x)
-file_is file Spells content bytes shown read x whole same e found only = record {
-  given = Ok bytes;
-  is = sym whole;
-  goes_on = subst (λ (b : List ℕ). Reads Spells b (Ok x)) same (reads_as Spells shown read x e found only);
-}
+pub reached_value : {X : Type 0} (stage : Result X Answer → Type 0) (x : X) → Reached stage (Ok x) → stage (Ok x)
+reached_value stage x (inl none) = absurd cc
+reached_value stage x (inr is) = is
 
-pub file_is_none : {X : Type 0} (file : File) (Spells : List ℕ → X → Type 0) (content : Option (List ℕ)) (bytes shown : List ℕ) (read : Option X) → bytes_of file content ≡ Ok bytes → shown ≡ bytes → read ≡ None
-    → ((other : X) → Spells shown other → read ≡ Some other) → FileOf file Spells content (Err answers.Unbuilt)
-file_is_none file Spells content bytes shown read whole same e only = record {
-  given = Ok bytes;
-  is = sym whole;
-  goes_on = subst (λ (b : List ℕ). Reads Spells b (Err answers.Unbuilt)) same (refl, λ x text. none-some x (sym e ∙ only x text));
-}
+-- and where the last stage ends in a text
+pub finishes_ok : {X : Type 0} (first : Result X Answer → Type 0) (next : X → Result Work Answer → Type 0) (x : X) (r : Result (List ℕ) Answer) → Reached first (Ok x) → Finishes (next x) r → Finishes (Then first next) r
+finishes_ok first next x (Ok text) reached done = record { work = done.work; is = then_ok first next x (Ok done.work) (reached_value first x reached) done.is; ends = done.ends }
+finishes_ok first next x (Err answer) reached (inl none) = inl none
+finishes_ok first next x (Err answer) reached (inr is) = inr (then_ok first next x (Err answer) (reached_value first x reached) is)
+
+no_memory : {X : Type 0} (a b : Answer) → ◌≡◌ {A = Result X Answer} (Err a) (Err b) → a ≡ b
+no_memory a b e = cc
+
+pub finishes_err : {X : Type 0} (first : Result X Answer → Type 0) (next : X → Result Work Answer → Type 0) (answer : Answer) → Reached first (Err answer) → Finishes (Then first next) (Err answer)
+finishes_err {X} first next answer (inl none) = inl (no_memory {X = X} answer answers.NoMemory none)
+finishes_err first next answer (inr is) = inr (then_err first next answer is)

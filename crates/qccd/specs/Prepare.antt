@@ -1,32 +1,33 @@
--- What the words and the files come to: something to write, or a refusal.
-use Rattle.std.specs.Prelude.{◌≡◌, ℕ, ◌^◌, nat_le, List, length, Option, Some, None, Result, Ok, Err, if◌then◌else◌}
-use Rattle.qc_base.specs.Shelf.{Contents}
+-- What the words and the files come to: work to do, or a refusal.
+use Rattle.std.specs.Prelude.{ℕ, ◌+◌, ◌^◌, nat_le, Bool, false, ◌&&◌, List, [], ◌∷◌, length, Option, Some, None, Result, Ok, Err, if◌then◌else◌}
+use Rattle.std.specs.Option.{ok_or}
+use Rattle.qc_base.specs.declared.ids.Qubit.{Qubit}
 use Rattle.circuit_core.specs.Circuit.{CircuitValue, qubit_count}
-use Rattle.qasm_read.specs.declared.fault.QasmFault.{QasmFault}
-use Rattle.qasm_read.specs.declared.fault.QasmFault.TheVariants as faults
 use Rattle.qasm_read.specs.declared.statement.Placed.{Placed}
 use Rattle.qasm_read.specs.Read.{IsReading}
+use Rattle.gate_expand.specs.Program.{expanded}
 use Rattle.trap_model.specs.Trap.{TrapValue}
-use Rattle.qc_base.specs.declared.ids.Qubit.{Qubit}
-use Rattle.step_rules.specs.declared.action.Action.{Action}
+use Rattle.trap_model.specs.declared.parts.ZonePart.{ZonePart}
+use Rattle.trap_read.specs.TrapFile.{trap_of}
+use Rattle.placement.specs.declared.rule.PlaceRule.{PlaceRule}
+use Rattle.placement.specs.declared.fault.PlaceFault.{PlaceFault}
+use Rattle.placement.specs.Placing.{Table, place_by}
 use Rattle.step_rules.specs.Setting.{SettingValue, setting_of}
-use Rattle.step_rules.specs.Play.{Plays}
-use Rattle.schedule_play.specs.declared.fault.PlayFault.{PlayFault}
-use Rattle.schedule_play.specs.declared.fault.PlayFault.TheVariants as plays
-use Rattle.schedule_play.specs.Faults.{IsFault}
-use Rattle.schedule_text.specs.declared.text_fault.TextFault.{TextFault}
-use Rattle.schedule_text.specs.declared.text_fault.TextFault.TheVariants as texts
-use Rattle.schedule_text.specs.Reading.{Spells, IsBadLine}
-use Rattle.qccd.specs.declared.answer.File.{File}
-use Rattle.qccd.specs.declared.answer.File.TheVariants.{Circuit, Trap, Schedule}
-use Rattle.qccd.specs.declared.answer.Answer.{Answer}
-use Rattle.qccd.specs.declared.answer.Answer.TheVariants as answers
-use Rattle.qccd.specs.Wanted.{Files, files_of}
-use Rattle.qccd.specs.Forms.{IsZoneText}
-use Rattle.qccd.specs.Flat.{circuit_of}
-use Rattle.qccd.specs.Filling.{declared_qubits, filled, room}
-use Rattle.qccd.specs.Work.{Planned, Work, make, judged}
-use Rattle.qccd.specs.Stages.{Then, Is}
+use Rattle.verify_core.specs.declared.judge.Checked.{Checked}
+use Rattle.verify_core.specs.Judging.{Judges}
+use Rattle.verify_core.specs.declared.fault.CheckFault.{CheckFault}
+use Rattle.verify_core.specs.declared.fault.CheckFault.TheVariants as checks
+use Rattle.request_words.specs.declared.file.File.{File}
+use Rattle.request_words.specs.declared.file.File.TheVariants.{Circuit, Trap, Schedule}
+use Rattle.request_words.specs.Request.{Asked, compile, check, verify, report, load, request_of}
+use Rattle.run_answers.specs.declared.answer.Answer.{Answer}
+use Rattle.run_answers.specs.declared.answer.Answer.TheVariants as answers
+use Rattle.qccd.specs.declared.inputs.Inputs.{Inputs}
+use Rattle.qccd.specs.Work.{Work, make, judged}
+use Rattle.qccd.specs.Stages.{Then, Is, As}
+use Rattle.qccd.specs.Found.{Found}
+
+-- ---- files
 
 -- the most bytes of a file
 abbrev pub limit_of : File → ℕ
@@ -39,110 +40,90 @@ abbrev pub bytes_of : File → Option (List ℕ) → Result (List ℕ) Answer
 bytes_of file None = Err (answers.ReadFault file)
 bytes_of file (Some bytes) = if nat_le (length bytes) (limit_of file) then Ok bytes else Err (answers.Long file)
 
--- the bytes are the text of this and of nothing else, or no text, which isn't built yet
-abbrev pub Reads : {X : Type 0} → (List ℕ → X → Type 0) → List ℕ → Result X Answer → Type 0
-Reads {X} Spells bytes (Ok x) = Spells bytes x × ((other : X) → Spells bytes other → other ≡ x)
-Reads {X} Spells bytes (Err answer) = (answer ≡ answers.Unbuilt) × ((x : X) → Spells bytes x → ⊥)
+-- a value, or the refusal that a fault is
+abbrev pub or_refuse : {X E : Type 0} → (E → Answer) → Result X E → Result X Answer
+or_refuse answer (Ok x) = Ok x
+or_refuse answer (Err fault) = Err (answer fault)
 
--- what a file with this content, or without one, comes to
-abbrev pub FileOf : {X : Type 0} → File → (List ℕ → X → Type 0) → Option (List ℕ) → Result X Answer → Type 0
-FileOf file Spells content = Then (Is (bytes_of file content)) (Reads Spells)
+-- the circuit of a program
+abbrev pub circuit_of : List Placed → Result CircuitValue Answer
+circuit_of program = or_refuse answers.Expand (expanded program)
 
--- a program, or the answer to a text that isn't one
-abbrev pub or_qasm : Result (List Placed) QasmFault → Result (List Placed) Answer
-or_qasm (Ok program) = Ok program
-or_qasm (Err fault) = Err (answers.Qasm fault)
+-- the program that the bytes are, and the circuit of the program
+abbrev pub CircuitIn : List ℕ → Result CircuitValue Answer → Type 0
+CircuitIn bytes = Then (As (IsReading bytes) (or_refuse answers.Qasm)) (λ program. Is (circuit_of program))
 
--- the answer to a text that isn't a program; out of memory is no fault of it
-abbrev pub refusal_of : QasmFault → Answer
-refusal_of faults.NoMemory = answers.NoMemory
-refusal_of fault = answers.Qasm fault
+-- the circuit's file
+abbrev pub CircuitOf : Option (List ℕ) → Result CircuitValue Answer → Type 0
+CircuitOf content = Then (Is (bytes_of Circuit content)) CircuitIn
 
--- what the bytes are as a program
-pub record ProgramOf (bytes : List ℕ) (outcome : Result (List Placed) Answer) : Type 0 where
-  pub reading : Result (List Placed) QasmFault
-  pub is : IsReading bytes reading
-  pub outcome_is : outcome ≡ or_qasm reading
+-- the trap that the bytes describe, and the labels of qubits for each zone, where there are some
+abbrev pub TrapIn : List ℕ → Result (TrapValue × Option Table) Answer → Type 0
+TrapIn bytes = Is (or_refuse answers.Trap (trap_of bytes))
 
--- the circuit's file: its bytes, the program that they are, and the circuit of the program
-pub record CircuitOf (content : Option (List ℕ)) (outcome : Result CircuitValue Answer) : Type 0 where
-  pub stages : Then (Is (bytes_of Circuit content)) (λ bytes. Then (ProgramOf bytes) (λ program. Is (circuit_of program))) outcome
+-- the trap's file
+abbrev pub TrapOf : Option (List ℕ) → Result (TrapValue × Option Table) Answer → Type 0
+TrapOf content = Then (Is (bytes_of Trap content)) TrapIn
 
--- the trap's file: its bytes, and the trap that they are the text of
-abbrev pub TrapOf : Option (List ℕ) → Result TrapValue Answer → Type 0
-TrapOf content = FileOf Trap IsZoneText content
+abbrev pub inputs_of : CircuitValue → TrapValue × Option Table → Inputs
+inputs_of circuit file = record { circuit = circuit; trap = file.0; labels = file.1 }
+
+-- the circuit's file first, and then the trap's
+abbrev pub InputsOf : Option (List ℕ) → Option (List ℕ) → Result Inputs Answer → Type 0
+InputsOf circuit_file trap_file = Then (CircuitOf circuit_file) (λ circuit. Then (TrapOf trap_file) (λ file. Is (Ok (inputs_of circuit file))))
 
 -- ---- a compilation
 
--- the qubits in declared order, where there is room; another placement isn't built yet
-abbrev pub placed : CircuitValue → TrapValue → Result Work Answer
-placed circuit trap = if nat_le (qubit_count circuit) (room trap.zones) then Ok (make (setting_of trap circuit (filled trap.zones (declared_qubits circuit)))) else Err answers.Unbuilt
+-- one zone that has all abilities, and two free places beside these qubits
+abbrev pub serves : List ZonePart → ℕ → Bool
+serves [] qubits = false
+serves (zone ∷ []) qubits = zone.one && zone.two && zone.read && nat_le (qubits + 2) zone.capacity
+serves (zone ∷ other ∷ zones) qubits = false
+
+-- a schedule is made on such a trap; other traps aren't built yet
+abbrev pub routed : SettingValue → Result Work Answer
+routed setting = if serves setting.trap.zones (qubit_count setting.circuit) then Ok (make setting) else Err answers.Unbuilt
+
+-- the placement by the rule, and the work from there
+abbrev pub from_placement : Inputs → Result (List (List Qubit)) PlaceFault → Result Work Answer
+from_placement inputs (Ok placement) = routed (setting_of inputs.trap inputs.circuit placement)
+from_placement inputs (Err fault) = Err (answers.Place fault)
+
+abbrev pub planned : PlaceRule → Inputs → Result Work Answer
+planned rule inputs = from_placement inputs (place_by inputs.trap inputs.circuit rule inputs.labels)
 
 -- ---- a check
 
--- the bytes are the text of this pair and of no other, or that line of them is the first bad one
-abbrev pub TextOf : TrapValue → CircuitValue → List ℕ → Result Planned Answer → Type 0
-TextOf trap circuit bytes (Ok pair) =
-    Spells trap circuit pair.placement pair.steps bytes
-    × ((placement : List (List Qubit)) (steps : List (List Action)) → Spells trap circuit placement steps bytes → (placement ≡ pair.placement) × (steps ≡ pair.steps))
-TextOf trap circuit bytes (Err (answers.Text line)) = IsBadLine trap circuit bytes line
-TextOf trap circuit bytes (Err answer) = ⊥
+-- the refusal that a fault of the schedule is
+abbrev pub check_refusal : CheckFault → Answer
+check_refusal (checks.Text line) = answers.Text line
+check_refusal (checks.Illegal fault) = answers.Illegal fault
+check_refusal checks.NoMemory = answers.NoMemory
 
--- the answer to bytes that are no text; out of memory is no fault of theirs
-abbrev pub no_text : TextFault → Answer
-no_text (texts.Line number) = answers.Text number
-no_text texts.NoMemory = answers.NoMemory
+-- work that is done, or a refusal
+abbrev pub as_judged : Inputs → Result Checked CheckFault → Result Work Answer
+as_judged inputs (Ok checked) = Ok (judged (setting_of inputs.trap inputs.circuit checked.placement) checked.schedule)
+as_judged inputs (Err fault) = Err (check_refusal fault)
 
--- the schedule plays, or that is its first fault
-abbrev pub VerdictOf : SettingValue → List (List Action) → Result Work Answer → Type 0
-VerdictOf setting steps (Ok work) = Plays setting steps × (work ≡ judged setting steps)
-VerdictOf setting steps (Err (answers.Illegal fault)) = IsFault setting steps fault
-VerdictOf setting steps (Err answer) = ⊥
+-- whether the bytes are the text of a schedule that plays
+abbrev pub JudgedIn : Inputs → List ℕ → Result Work Answer → Type 0
+JudgedIn inputs bytes = As (Judges inputs.trap inputs.circuit bytes) (as_judged inputs)
 
--- the answer to a fault; out of memory is no fault of the schedule
-abbrev pub illegal_of : PlayFault → Answer
-illegal_of plays.NoMemory = answers.NoMemory
-illegal_of fault = answers.Illegal fault
+-- the schedule's file
+abbrev pub JudgedOf : Option (List ℕ) → Inputs → Result Work Answer → Type 0
+JudgedOf content inputs = Then (Is (bytes_of Schedule content)) (JudgedIn inputs)
 
--- the pair that the bytes are the text of, and whether it plays
-abbrev pub JudgedText : TrapValue → CircuitValue → List ℕ → Result Work Answer → Type 0
-JudgedText trap circuit bytes = Then (TextOf trap circuit bytes) (λ (pair : Planned). VerdictOf (setting_of trap circuit pair.placement) pair.steps)
+-- ---- all commands
 
--- the schedule's file: its bytes, and what they are
-abbrev pub JudgedOf : TrapValue → CircuitValue → Option (List ℕ) → Result Work Answer → Type 0
-JudgedOf trap circuit content = Then (Is (bytes_of Schedule content)) (JudgedText trap circuit)
+-- what each request comes to; exact mode and the other commands aren't built yet
+abbrev pub Comes : Found → Asked → Result Work Answer → Type 0
+Comes found (compile circuit trap rule None) = Then (InputsOf found.circuit found.trap) (λ inputs. Is (planned rule inputs))
+Comes found (compile circuit trap rule (Some search)) = Is (Err answers.Unbuilt)
+Comes found (check circuit trap schedule) = Then (InputsOf found.circuit found.trap) (JudgedOf found.schedule)
+Comes found (verify circuit trap schedule cert) = Is (Err answers.Unbuilt)
+Comes found (report circuit trap schedule) = Is (Err answers.Unbuilt)
+Comes found (load seed schedule) = Is (Err answers.Unbuilt)
 
--- ---- both
-
--- what a read of each file finds under a name
-abbrev pub Found : Type 0
-Found = File → Contents
-
--- what the shelf holds
-abbrev pub all_of : Contents → Found
-all_of contents file = contents
-
--- the same, but one file is missing
-abbrev pub all_but : File → Contents → Found
-all_but Circuit contents Circuit name = None
-all_but Circuit contents Trap name = contents name
-all_but Circuit contents Schedule name = contents name
-all_but Trap contents Circuit name = contents name
-all_but Trap contents Trap name = None
-all_but Trap contents Schedule name = contents name
-all_but Schedule contents Circuit name = contents name
-all_but Schedule contents Trap name = contents name
-all_but Schedule contents Schedule name = None
-
--- what is done with circuit and trap: a compilation, or a check of the schedule that is named
-abbrev pub WorkOf : Contents → Option (List ℕ) → CircuitValue → TrapValue → Result Work Answer → Type 0
-WorkOf found None circuit trap = Is (placed circuit trap)
-WorkOf found (Some name) circuit trap = JudgedOf trap circuit (found name)
-
--- The words name a circuit and a trap, and perhaps a schedule; each file is read and understood, the circuit first.
+-- The words ask for something, and the files that it reads are read and judged one after another.
 abbrev pub Prepares : Found → List (List ℕ) → Result Work Answer → Type 0
-Prepares found words =
-    Then (Is (files_of words)) (λ (asked : Files).
-    Then (CircuitOf (found Circuit asked.circuit)) (λ circuit.
-    Then (TrapOf (found Trap asked.trap)) (λ trap.
-    WorkOf (found Schedule) asked.schedule circuit trap)))
+Prepares found words = Then (Is (ok_or (request_of words) answers.Usage)) (Comes found)

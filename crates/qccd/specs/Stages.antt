@@ -1,6 +1,6 @@
 -- Stages of a run, one after another, each of which may refuse.
 use Rattle.std.specs.Prelude.{◌≡◌, Result, Ok, Err}
-use Rattle.qccd.specs.declared.answer.Answer.{Answer}
+use Rattle.run_answers.specs.declared.answer.Answer.{Answer}
 
 -- a refusal stays, and anything else goes on to the next stage
 abbrev pub GoesOn : {X Y : Type 0} → (X → Result Y Answer → Type 0) → Result X Answer → Result Y Answer → Type 0
@@ -16,3 +16,9 @@ pub record Then {X Y : Type 0} (first : Result X Answer → Type 0) (next : X �
 -- a stage whose outcome is this value
 abbrev pub Is : {X : Type 0} → Result X Answer → Result X Answer → Type 0
 Is value outcome = outcome ≡ value
+
+-- a stage that hands on what another judges, as that function sees it
+pub record As {R X : Type 0} (judges : R → Type 0) (see : R → Result X Answer) (outcome : Result X Answer) : Type 0 where
+  pub judgement : R
+  pub is : judges judgement
+  pub outcome_is : outcome ≡ see judgement

@@ -1,22 +1,18 @@
-//! From the text of a schedule to what is said of it.
+//! What is said of a schedule that plays.
 
-ghost use Rattle.std.specs.Prelude.{◌≡◌, ℕ, ◌<◌, ◌^◌, ◌⊎◌, ◌++◌, List, length, codes, decimal, IfOk, IfErr, OnOk, Ok, Err};
+ghost use Rattle.std.specs.Prelude.{◌≡◌, ℕ, ◌<◌, ◌^◌, ◌++◌, List, length, codes, decimal, IfOk, IfErr, OnOk};
 ghost use Rattle.qc_base.specs.Counting.{how_many};
-ghost use Rattle.step_rules.specs.Setting.{setting_of};
-ghost use Rattle.step_rules.specs.Placement.{IsPlacement};
 ghost use Rattle.step_rules.specs.Play.{actions_of};
-ghost use Rattle.qccd.specs.declared.answer.Answer.{Answer};
-ghost use Rattle.qccd.specs.Prepare.{VerdictOf, JudgedText, no_text, illegal_of};
-ghost use Rattle.qccd.specs.Compile.{is_operation, legal_line, IsDoneBy};
+ghost use Rattle.qccd.specs.Prepare.{check_refusal, JudgedIn};
+ghost use Rattle.qccd.specs.Work.{is_operation, legal_line};
+ghost use Rattle.qccd.specs.Loading.{Finishes, IsOfContent};
 
-use crate::answer::Answer;
-use circuit_core::Circuit;
-use qc_base::{NoMemory, push_number};
-use schedule_play::{PlayFault, play};
-use schedule_text::TextFault;
+use crate::inputs::Inputs;
+use qc_base::{Items, NoMemory, push_number};
+use run_answers::Answer;
 use std::alloc::Global;
-use step_rules::{Action, Placement, Schedule, Step};
-use trap_model::Trap;
+use step_rules::{Action, Schedule, Step};
+use verify_core::{CheckFault, check};
 
 /// How many actions these steps have together.
 fn action_count(steps: &[Step]) -> u64
@@ -83,62 +79,28 @@ fn legal_line(alloc: Global, schedule: &Schedule) -> Result<Vec<u8>, NoMemory>
     Ok(out)
 }
 
-/// The answer to bytes that are no text.
-fn no_text(fault: TextFault) -> Answer
-    ensures { result ≡ no_text fault }
+/// The answer to bytes that are no text of a schedule that plays.
+fn check_refusal(fault: CheckFault) -> Answer
+    ensures answer { result ≡ check_refusal fault }
+    ensures kind { IsOfContent result }
 {
     match fault {
-        TextFault::Line { number } => Answer::Text { line: number },
-        TextFault::NoMemory => Answer::NoMemory,
-    }
-}
-
-/// The answer to a schedule that does not play.
-fn illegal(fault: PlayFault) -> Answer
-    ensures { result ≡ illegal_of fault }
-{
-    match fault {
-        PlayFault::NoMemory => Answer::NoMemory,
-        _ => Answer::Illegal { fault },
-    }
-}
-
-/// Plays a schedule: what is said of it, or its first fault.
-#[tactic(auto, using(crate::proofs::Judging::verdict_done, crate::proofs::Judging::said_of))]
-fn verdict(
-    alloc: Global,
-    trap: &Trap,
-    circuit: &Circuit,
-    placement: &Placement,
-    schedule: &Schedule,
-) -> Result<Vec<u8>, Answer>
-    requires placed { IsPlacement trap.now circuit.now placement.now }
-    requires few { length (actions_of schedule.now) < 2 ^ 64 }
-    ensures done { IfOk result (λ text. IsDoneBy (VerdictOf (setting_of trap.now circuit.now placement.now) schedule.now) text.items) }
-    ensures stopped { IfErr result (λ answer. (answer ≡ Answer.NoMemory) ⊎ VerdictOf (setting_of trap.now circuit.now placement.now) schedule.now (Err answer)) }
-{
-    match play(alloc, trap, circuit, placement, schedule) {
-        Ok(_) => match legal_line(alloc, schedule) {
-            Ok(text) => Ok(text),
-            Err(NoMemory) => Err(Answer::NoMemory),
-        },
-        Err(fault) => Err(illegal(fault)),
+        CheckFault::Text(line) => Answer::Text { line },
+        CheckFault::Illegal(fault) => Answer::Illegal(fault),
+        CheckFault::NoMemory => Answer::NoMemory,
     }
 }
 
 /// What is said of the schedule that the bytes are the text of, or the first bad line, or the first fault.
-#[tactic(auto, using(crate::proofs::Judging::refused_text))]
-pub fn judged_text(
-    alloc: Global,
-    trap: &Trap,
-    circuit: &Circuit,
-    bytes: &[u8],
-) -> Result<Vec<u8>, Answer>
-    ensures done { IfOk result (λ text. IsDoneBy (JudgedText trap.now circuit.now bytes.now) text.items) }
-    ensures stopped { IfErr result (λ answer. (answer ≡ Answer.NoMemory) ⊎ JudgedText trap.now circuit.now bytes.now (Err answer)) }
+pub fn judged_text(alloc: Global, inputs: &Inputs, bytes: &[u8]) -> Result<Items<u8>, Answer>
+    ensures done { Finishes (JudgedIn inputs.now bytes.now) result }
+    ensures kind { IfErr result IsOfContent }
 {
-    match schedule_text::read(alloc, trap, circuit, bytes) {
-        Ok((placement, schedule)) => verdict(alloc, trap, circuit, &placement, &schedule),
-        Err(fault) => Err(no_text(fault)),
+    match check(alloc, &inputs.trap, &inputs.circuit, bytes) {
+        Ok(checked) => match legal_line(alloc, &checked.schedule) {
+            Ok(text) => Ok(Items::from_vec(text)),
+            Err(NoMemory) => Err(Answer::NoMemory),
+        },
+        Err(fault) => Err(check_refusal(fault)),
     }
 }

@@ -1,26 +1,37 @@
 //! Laws of the definitions that `run` is proved by.
 
-ghost use Rattle.std.specs.Prelude.{◌≡◌, ℕ, ◌≤◌, ◌^◌, List, length, Some, Result, Ok};
-ghost use Rattle.qc_base.specs.Shelf.{Contents};
+ghost use Rattle.std.specs.Prelude.{◌≡◌, ℕ, ◌≤◌, ◌^◌, List, length, Option, Some, None, Result, Ok};
+ghost use Rattle.placement.specs.declared.rule.PlaceRule.{PlaceRule};
 ghost use Rattle.step_rules.specs.Setting.{SettingValue};
-ghost use Rattle.qccd.specs.declared.answer.Answer.{Answer};
-ghost use Rattle.qccd.specs.Wanted.{files_of, to_compile, to_check};
-ghost use Rattle.qccd.specs.Work.{Work, make};
-ghost use Rattle.qccd.specs.Prepare.{Found, all_of, Prepares};
-ghost use Rattle.qccd.specs.Compile.{IsTextOf};
+ghost use Rattle.request_words.specs.Request.{request_of, compile, check};
+ghost use Rattle.run_answers.specs.declared.answer.Answer.{Answer};
+ghost use Rattle.qccd.specs.Work.{Work, make, IsTightTextOf};
+ghost use Rattle.qccd.specs.Found.{Found};
+ghost use Rattle.qccd.specs.Prepare.{Prepares};
+ghost use Rattle.qccd.specs.Run.{Devices, Runs};
+ghost use Rattle.qccd.specs.Headline.{Compiled};
 ghost use Rattle.qccd.specs.RoundTrip.{IsJudgedLegal};
+
+/// The headline: a compilation that answers Ok wrote the text of the placement of the rule and of a schedule that plays
+/// from it, for the circuit and the trap of the files that were found.
+pub fn an_ok_compilation_is_compiled()
+    ensures { (words : List (List ℕ)) (circuit trap : List ℕ) (rule : PlaceRule) (before now : Devices)
+        → request_of words ≡ Some (compile circuit trap rule None) → (run : Runs words before now Answer.Ok)
+        → Compiled run.found rule before.out.taken now.out.taken }
+{}
 
 /// Words and files come to one outcome.
 pub fn one_outcome()
     ensures { (found : Found) (words : List (List ℕ)) (a b : Result Work Answer) → Prepares found words a → Prepares found words b → a ≡ b }
 {}
 
-/// A check of the text that a compilation wrote says that it is legal, once the text is put on the shelf and circuit and trap stand there as before.
+/// A check of the text that a compilation wrote says that it is legal, where the same circuit and trap are found, and
+/// the text as the schedule.
 pub fn a_compiled_schedule_is_legal()
-    ensures { (before after : Contents) (words check_words : List (List ℕ)) (circuit trap schedule text : List ℕ) (setting : SettingValue)
-        → files_of words ≡ Ok (to_compile circuit trap) → files_of check_words ≡ Ok (to_check circuit trap schedule)
-        → Prepares (all_of before) words (Ok (make setting)) → IsTextOf setting text
-        → after circuit ≡ before circuit → after trap ≡ before trap
-        → after schedule ≡ Some text → length text ≤ 2 ^ 30
-        → IsJudgedLegal after check_words setting text }
+    ensures { (found checked : Found) (words check_words : List (List ℕ)) (circuit trap circuit_again trap_again schedule text : List ℕ)
+        (rule : PlaceRule) (setting : SettingValue)
+        → request_of words ≡ Some (compile circuit trap rule None) → request_of check_words ≡ Some (check circuit_again trap_again schedule)
+        → Prepares found words (Ok (make setting)) → IsTightTextOf setting text
+        → checked.circuit ≡ found.circuit → checked.trap ≡ found.trap → checked.schedule ≡ Some text → length text ≤ 2 ^ 30
+        → IsJudgedLegal checked check_words setting text }
 {}

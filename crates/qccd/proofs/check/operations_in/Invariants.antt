@@ -1,6 +1,6 @@
 use Rattle.std.proofs.Common.{◌≡◌, ◌+◌, ◌≤◌, drop}
 use Rattle.qc_base.specs.Counting.{how_many}
-use Rattle.qccd.specs.Compile.{is_operation}
+use Rattle.qccd.specs.Work.{is_operation}
 use Rattle.qccd.proofs.check.operations_in.Given as goal
 
 abbrev pub invariant-loop-action : goal.invariant-loop-action

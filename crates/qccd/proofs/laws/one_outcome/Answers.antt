@@ -1,4 +1,4 @@
-use Rattle.qccd.proofs.Outcomes.{prepares-one}
+use Rattle.qccd.proofs.Settled.{prepares-one}
 use Rattle.qccd.proofs.laws.one_outcome.Goals as goal
 
 pub returns : goal.returns

@@ -1,0 +1,215 @@
+-- What the commands come to before anything is written.
+use Rattle.std.proofs.Common.{◌≡◌, ◌≢◌, List, ℕ, Option, Some, None, Result, Ok, Err, refl, sym, ap, ◌∙◌, subst, inl, inr}
+use Rattle.std.specs.Option.{option_and_then, option_map, ok_or}
+use Rattle.qc_base.specs.Shelf.{ShelfFacts, OnlyReads}
+use Rattle.placement.specs.declared.fault.PlaceFault.{PlaceFault}
+use Rattle.placement.specs.declared.rule.PlaceRule.{PlaceRule}
+use Rattle.request_words.specs.declared.file.File.{File}
+use Rattle.request_words.specs.declared.file.File.TheVariants as files
+use Rattle.request_words.specs.Request.{Asked, compile, check, request_of, file_of}
+use Rattle.run_answers.specs.declared.answer.Answer.{Answer}
+use Rattle.run_answers.specs.declared.answer.Answer.TheVariants as answers
+use Rattle.qccd.specs.declared.inputs.Inputs.{Inputs}
+use Rattle.qccd.specs.declared.command.Refusal.{Refusal}
+use Rattle.qccd.specs.Work.{Work}
+use Rattle.qccd.specs.Stages.{Is, Then}
+use Rattle.qccd.specs.Found.{Found, name_in, IsFoundUnder, IsFound}
+use Rattle.qccd.specs.Prepare.{InputsOf, planned, JudgedOf, Comes, Prepares}
+use Rattle.qccd.specs.Loading.{LoadsBoth, CountsAll, Finishes}
+use Rattle.run_answers.specs.Answer.{fault_line}
+use Rattle.qccd.specs.Run.{HasNames, SinkFacts, Tells}
+use Rattle.qccd.specs.Preparing.{HasInputs, answer_in, Judging, Prepared, names_of}
+use Rattle.qccd.proofs.Stages.{reached_value, finishes_ok, finishes_err, then_ok, then_err}
+use Rattle.qccd.proofs.Reading.{found_before, found_after, not_read}
+
+-- ---- a refusal and what was read by then
+
+same_refusal : (a b : Refusal) → ◌≡◌ {A = Result (List ℕ) Refusal} (Err a) (Err b) → a ≡ b
+same_refusal a b e = cc
+
+no_refusal : (text : List ℕ) (refusal : Refusal) → ◌≢◌ {A = Result (List ℕ) Refusal} (Ok text) (Err refusal)
+no_refusal text refusal e = cc
+
+-- a refusal of a placement comes with what the files describe
+abbrev pub Names : Found → Result (List ℕ) Refusal → Type 0
+Names found result = (refusal : Refusal) (fault : PlaceFault) → result ≡ Err refusal → refusal.answer ≡ answers.Place fault → HasInputs found refusal
+
+names_ok : (found : Found) (text : List ℕ) → Names found (Ok text)
+names_ok found text refusal fault e place = absurd (no_refusal text refusal e)
+
+names_late : (found : Found) (answer : Answer) (inputs : Inputs) → InputsOf found.circuit found.trap (Ok inputs) → Names found (Err (record { answer = answer; inputs = Some inputs }))
+names_late found answer inputs are refusal fault e place = record {
+  inputs = inputs;
+  is = ap (λ (r : Refusal). r.inputs) (sym (same_refusal (record { answer = answer; inputs = Some inputs }) refusal e));
+  are = are;
+}
+
+names_early : (found : Found) (answer : Answer) → ((fault : PlaceFault) → answer ≢ answers.Place fault) → Names found (Err (record { answer = answer; inputs = None }))
+names_early found answer other refusal fault e place =
+    absurd (other fault (ap (λ (r : Refusal). r.answer) (same_refusal (record { answer = answer; inputs = None }) refusal e) ∙ place))
+
+-- ---- a compilation
+
+abbrev asked_plan : List ℕ → List ℕ → PlaceRule → Asked
+asked_plan circuit trap rule = compile circuit trap rule None
+
+abbrev pub PlanPrepared : ShelfFacts → ShelfFacts → List ℕ → List ℕ → PlaceRule → Result (List ℕ) Refusal → Type 0
+PlanPrepared before now circuit trap rule result = Prepared (file_of (asked_plan circuit trap rule)) (λ found. Comes found (asked_plan circuit trap rule)) before now result
+
+pub plan_ok : (before now : ShelfFacts) (circuit trap : List ℕ) (rule : PlaceRule) (inputs : Inputs) (text : List ℕ) → LoadsBoth before now circuit trap (Ok inputs)
+    → Finishes (Is (planned rule inputs)) (Ok text) → PlanPrepared before now circuit trap rule (Ok text)
+plan_ok before now circuit trap rule inputs text loads done = record {
+  found = record { circuit = loads.circuit_file; trap = loads.trap_file; schedule = None };
+  is_found = record { circuit = loads.circuit_found; trap = loads.trap_found; schedule = refl };
+  finishes = finishes_ok (InputsOf loads.circuit_file loads.trap_file) (λ inputs. Is (planned rule inputs)) inputs (Ok text) loads.reached done;
+  named = names_ok (record { circuit = loads.circuit_file; trap = loads.trap_file; schedule = None }) text;
+}
+
+pub plan_late : (before now : ShelfFacts) (circuit trap : List ℕ) (rule : PlaceRule) (inputs : Inputs) (answer : Answer) → LoadsBoth before now circuit trap (Ok inputs)
+    → Finishes (Is (planned rule inputs)) (Err answer) → PlanPrepared before now circuit trap rule (Err (record { answer = answer; inputs = Some inputs }))
+plan_late before now circuit trap rule inputs answer loads done =
+    let found : Found = record { circuit = loads.circuit_file; trap = loads.trap_file; schedule = None } in
+    record {
+      found = found;
+      is_found = record { circuit = loads.circuit_found; trap = loads.trap_found; schedule = refl };
+      finishes = finishes_ok (InputsOf loads.circuit_file loads.trap_file) (λ inputs. Is (planned rule inputs)) inputs (Err answer) loads.reached done;
+      named = names_late found answer inputs (reached_value (InputsOf loads.circuit_file loads.trap_file) inputs loads.reached);
+    }
+
+pub plan_early : (before now : ShelfFacts) (circuit trap : List ℕ) (rule : PlaceRule) (answer : Answer) → LoadsBoth before now circuit trap (Err answer) → ((fault : PlaceFault) → answer ≢ answers.Place fault)
+    → PlanPrepared before now circuit trap rule (Err (record { answer = answer; inputs = None }))
+plan_early before now circuit trap rule answer loads other = record {
+  found = record { circuit = loads.circuit_file; trap = loads.trap_file; schedule = None };
+  is_found = record { circuit = loads.circuit_found; trap = loads.trap_found; schedule = refl };
+  finishes = finishes_err (InputsOf loads.circuit_file loads.trap_file) (λ inputs. Is (planned rule inputs)) answer loads.reached;
+  named = names_early (record { circuit = loads.circuit_file; trap = loads.trap_file; schedule = None }) answer other;
+}
+
+-- ---- a check
+
+abbrev pub CheckPrepared : ShelfFacts → ShelfFacts → List ℕ → List ℕ → List ℕ → Result (List ℕ) Refusal → Type 0
+CheckPrepared before now circuit trap schedule result = Prepared (file_of (check circuit trap schedule)) (λ found. Comes found (check circuit trap schedule)) before now result
+
+pub check_ok : (before middle now : ShelfFacts) (circuit trap schedule : List ℕ) (inputs : Inputs) (text : List ℕ) → OnlyReads before middle → OnlyReads middle now → LoadsBoth before middle circuit trap (Ok inputs)
+    → Judging middle now schedule inputs (Ok text) → CheckPrepared before now circuit trap schedule (Ok text)
+check_ok before middle now circuit trap schedule inputs text first second loads judging = record {
+  found = record { circuit = loads.circuit_file; trap = loads.trap_file; schedule = judging.content };
+  is_found = record {
+    circuit = found_before before middle now circuit loads.circuit_file second loads.circuit_found;
+    trap = found_before before middle now trap loads.trap_file second loads.trap_found;
+    schedule = found_after before middle now schedule judging.content first judging.is_found;
+  };
+  finishes = finishes_ok (InputsOf loads.circuit_file loads.trap_file) (JudgedOf judging.content) inputs (Ok text) loads.reached judging.finishes;
+  named = names_ok (record { circuit = loads.circuit_file; trap = loads.trap_file; schedule = judging.content }) text;
+}
+
+pub check_late : (before middle now : ShelfFacts) (circuit trap schedule : List ℕ) (inputs : Inputs) (answer : Answer) → OnlyReads before middle → OnlyReads middle now → LoadsBoth before middle circuit trap (Ok inputs)
+    → Judging middle now schedule inputs (Err answer) → CheckPrepared before now circuit trap schedule (Err (record { answer = answer; inputs = Some inputs }))
+check_late before middle now circuit trap schedule inputs answer first second loads judging =
+    let found : Found = record { circuit = loads.circuit_file; trap = loads.trap_file; schedule = judging.content } in
+    record {
+      found = found;
+      is_found = record {
+        circuit = found_before before middle now circuit loads.circuit_file second loads.circuit_found;
+        trap = found_before before middle now trap loads.trap_file second loads.trap_found;
+        schedule = found_after before middle now schedule judging.content first judging.is_found;
+      };
+      finishes = finishes_ok (InputsOf loads.circuit_file loads.trap_file) (JudgedOf judging.content) inputs (Err answer) loads.reached judging.finishes;
+      named = names_late found answer inputs (reached_value (InputsOf loads.circuit_file loads.trap_file) inputs loads.reached);
+    }
+
+pub check_early : (before now : ShelfFacts) (circuit trap schedule : List ℕ) (answer : Answer) → LoadsBoth before now circuit trap (Err answer) → ((fault : PlaceFault) → answer ≢ answers.Place fault)
+    → CheckPrepared before now circuit trap schedule (Err (record { answer = answer; inputs = None }))
+check_early before now circuit trap schedule answer loads other = record {
+  found = record { circuit = loads.circuit_file; trap = loads.trap_file; schedule = before.contents schedule };
+  is_found = record { circuit = loads.circuit_found; trap = loads.trap_found; schedule = not_read before now schedule };
+  finishes = finishes_err (InputsOf loads.circuit_file loads.trap_file) (JudgedOf (before.contents schedule)) answer loads.reached;
+  named = names_early (record { circuit = loads.circuit_file; trap = loads.trap_file; schedule = before.contents schedule }) answer other;
+}
+
+-- ---- the words
+
+-- the stages of a request, where there is one
+abbrev Asks : Option Asked → Found → Result Work Answer → Type 0
+Asks asked found = Then (Is (ok_or asked answers.Usage)) (Comes found)
+
+abbrev names_for : Option Asked → File → Option (List ℕ)
+names_for asked file = option_and_then (λ a. file_of a file) asked
+
+asked_done : (found : Found) (asked : Asked) (r : Result (List ℕ) Answer) → Finishes (Comes found asked) r → Finishes (Asks (Some asked) found) r
+asked_done found asked (Ok text) done = record { work = done.work; is = then_ok (Is (Ok asked)) (Comes found) asked (Ok done.work) refl done.is; ends = done.ends }
+asked_done found asked (Err answer) (inl none) = inl none
+asked_done found asked (Err answer) (inr is) = inr (then_ok (Is (Ok asked)) (Comes found) asked (Err answer) refl is)
+
+pub prepared_by : (before now : ShelfFacts) (words : List (List ℕ)) (asked : Asked) (result : Result (List ℕ) Refusal) → request_of words ≡ Some asked
+    → Prepared (file_of asked) (λ found. Comes found asked) before now result → Prepared (name_in words) (λ found. Prepares found words) before now result
+prepared_by before now words asked result request p =
+    subst (λ (o : Option Asked). Prepared (names_for o) (Asks o) before now result) (sym request)
+    (record { found = p.found; is_found = record { circuit = p.is_found.circuit; trap = p.is_found.trap; schedule = p.is_found.schedule }; finishes = asked_done p.found asked (answer_in result) p.finishes; named = p.named })
+
+pub counts_by : {X : Type 0} (before now : ShelfFacts) (words : List (List ℕ)) (asked : Asked) (result : Result X Answer) → request_of words ≡ Some asked
+    → CountsAll (file_of asked) before now result → CountsAll (name_in words) before now result
+counts_by before now words asked result request counts = subst (λ (o : Option Asked). CountsAll (names_for o) before now result) (sym request) counts
+
+-- ---- words that ask for nothing that is built
+
+-- what the shelf holds under those names
+abbrev shelf_found : ShelfFacts → (File → Option (List ℕ)) → Found
+shelf_found before names = record {
+  circuit = option_and_then before.contents (names files.Circuit);
+  trap = option_and_then before.contents (names files.Trap);
+  schedule = option_and_then before.contents (names files.Schedule);
+}
+
+under : (before now : ShelfFacts) (name : Option (List ℕ)) → IsFoundUnder before now name (option_and_then before.contents name)
+under before now None = refl
+under before now (Some name) = not_read before now name
+
+shelf_is_found : (before now : ShelfFacts) (names : File → Option (List ℕ)) → IsFound before now names (shelf_found before names)
+shelf_is_found before now names = record { circuit = under before now (names files.Circuit); trap = under before now (names files.Trap); schedule = under before now (names files.Schedule) }
+
+-- a refusal by the words alone
+pub refused_by_words : (before now : ShelfFacts) (words : List (List ℕ)) (answer : Answer) → ((fault : PlaceFault) → answer ≢ answers.Place fault) → ((found : Found) → Prepares found words (Err answer))
+    → Prepared (name_in words) (λ found. Prepares found words) before now (Err (record { answer = answer; inputs = None }))
+refused_by_words before now words answer other refused = record {
+  found = shelf_found before (name_in words);
+  is_found = shelf_is_found before now (name_in words);
+  finishes = inr (refused (shelf_found before (name_in words)));
+  named = names_early (shelf_found before (name_in words)) answer other;
+}
+
+pub no_request : (found : Found) (words : List (List ℕ)) → request_of words ≡ None → Prepares found words (Err answers.Usage)
+no_request found words none = subst (λ (o : Option Asked). Asks o found (Err answers.Usage)) (sym none) (then_err (Is (Err answers.Usage)) (Comes found) answers.Usage refl)
+
+pub usage_places_nothing : (fault : PlaceFault) → answers.Usage ≢ answers.Place fault
+usage_places_nothing fault e = cc
+
+unbuilt_places_nothing : (fault : PlaceFault) → answers.Unbuilt ≢ answers.Place fault
+unbuilt_places_nothing fault e = cc
+
+-- a request that isn't built
+pub unbuilt : (before now : ShelfFacts) (asked : Asked) (result : Result (List ℕ) Refusal) → result ≡ Err (record { answer = answers.Unbuilt; inputs = None }) → ((found : Found) → Comes found asked (Err answers.Unbuilt))
+    → Prepared (file_of asked) (λ found. Comes found asked) before now result
+unbuilt before now asked result same is =
+    let found = shelf_found before (file_of asked) in
+    subst (Prepared (file_of asked) (λ found. Comes found asked) before now) (sym same) (record {
+      found = found;
+      is_found = shelf_is_found before now (file_of asked);
+      finishes = inr (is found);
+      named = names_early found answers.Unbuilt unbuilt_places_nothing;
+    })
+
+-- the names of what was read, for the line of a placement
+pub has_names : (found : Found) (refusal : Refusal) → ((fault : PlaceFault) → refusal.answer ≡ answers.Place fault → HasInputs found refusal) → HasNames found refusal.answer (names_of refusal.inputs)
+has_names found refusal named fault place =
+    let all = named fault place in
+    record {
+      inputs = all.inputs;
+      are = all.are;
+      circuit = ap (λ (i : Option Inputs). option_map (λ (x : Inputs). x.circuit) i) all.is;
+      trap = ap (λ (i : Option Inputs). option_map (λ (x : Inputs). x.trap) i) all.is;
+    }
+
+-- the line with the names of what was handed over
+pub told_with : (before now : SinkFacts) (answer : Answer) (a b : Option Inputs) → a ≡ b → Tells before now (fault_line (names_of a) answer) → Tells before now (fault_line (names_of b) answer)
+told_with before now answer a b same told = subst (λ (i : Option Inputs). Tells before now (fault_line (names_of i) answer)) same told

@@ -1,0 +1,100 @@
+-- What stages went through that came to a value.
+use Rattle.std.proofs.Common.{◌≡◌, List, ℕ, Option, Some, None, Result, Ok, Err, refl, ap, ◌∙◌, subst}
+use Rattle.std.specs.Prelude.{Bool, true, false, if◌then◌else◌}
+use Rattle.std.specs.Option.{ok_or}
+use Rattle.qc_base.specs.declared.ids.Qubit.{Qubit}
+use Rattle.circuit_core.specs.Circuit.{CircuitValue, qubit_count}
+use Rattle.trap_model.specs.Trap.{TrapValue}
+use Rattle.step_rules.specs.Setting.{setting_of}
+use Rattle.placement.specs.declared.fault.PlaceFault.{PlaceFault}
+use Rattle.placement.specs.declared.rule.PlaceRule.{PlaceRule}
+use Rattle.placement.specs.Placing.{Table, place_by}
+use Rattle.request_words.specs.Request.{Asked, compile, request_of}
+use Rattle.run_answers.specs.declared.answer.Answer.{Answer}
+use Rattle.run_answers.specs.declared.answer.Answer.TheVariants as answers
+use Rattle.qccd.specs.declared.inputs.Inputs.{Inputs}
+use Rattle.qccd.specs.Work.{Work, make}
+use Rattle.qccd.specs.Stages.{GoesOn, Then}
+use Rattle.qccd.specs.Found.{Found}
+use Rattle.qccd.specs.Prepare.{CircuitOf, TrapOf, inputs_of, serves, from_placement, planned, Comes, Prepares}
+
+-- the value of a first stage, from which the next came to a value too
+pub record Went {X Y : Type 0} (first : Result X Answer → Type 0) (next : X → Result Y Answer → Type 0) (y : Y) : Type 0 where
+  pub x : X
+  pub is : first (Ok x)
+  pub goes_on : next x (Ok y)
+
+went_on : {X Y : Type 0} (first : Result X Answer → Type 0) (next : X → Result Y Answer → Type 0) (y : Y) (given : Result X Answer) → first given → GoesOn next given (Ok y) → Went first next y
+went_on first next y (Ok x) is goes_on = record { x = x; is = is; goes_on = goes_on }
+went_on first next y (Err answer) is goes_on = absurd cc
+
+pub went : {X Y : Type 0} (first : Result X Answer → Type 0) (next : X → Result Y Answer → Type 0) (y : Y) → Then first next (Ok y) → Went first next y
+went first next y stages = went_on first next y stages.given stages.is stages.goes_on
+
+-- ---- what the words ask for
+
+same_asked : (a b : Asked) → ◌≡◌ {A = Result Asked Answer} (Ok a) (Ok b) → a ≡ b
+same_asked a b e = cc
+
+pub asked_for : (found : Found) (words : List (List ℕ)) (asked : Asked) (work : Work) → request_of words ≡ Some asked → Prepares found words (Ok work) → Comes found asked (Ok work)
+asked_for found words asked work request prepares =
+    let first = went _ _ work prepares in
+    let same : first.x ≡ asked = same_asked first.x asked (first.is ∙ ap (λ (o : Option Asked). ok_or o answers.Usage) request) in
+    subst (λ (a : Asked). Comes found a (Ok work)) same first.goes_on
+
+-- ---- a circuit, a trap and a placement, from which a schedule is to be made
+
+pub record Planned (found : Found) (rule : PlaceRule) (work : Work) : Type 0 where
+  pub circuit : CircuitValue
+  pub trap : TrapValue
+  pub labels : Option Table
+  pub placement : List (List Qubit)
+  pub circuit_is : CircuitOf found.circuit (Ok circuit)
+  pub trap_is : TrapOf found.trap (Ok (trap, labels))
+  pub placement_is : place_by trap circuit rule labels ≡ Ok placement
+  pub served : serves trap.zones (qubit_count circuit) ≡ true
+  pub work_is : work ≡ make (setting_of trap circuit placement)
+
+-- what was routed
+pub record Routed (inputs : Inputs) (placed : Result (List (List Qubit)) PlaceFault) (work : Work) : Type 0 where
+  pub placement : List (List Qubit)
+  pub placed_is : placed ≡ Ok placement
+  pub served : serves inputs.trap.zones (qubit_count inputs.circuit) ≡ true
+  pub work_is : work ≡ make (setting_of inputs.trap inputs.circuit placement)
+
+same_work : (a b : Work) → ◌≡◌ {A = Result Work Answer} (Ok a) (Ok b) → a ≡ b
+same_work a b e = cc
+
+served_by : (b : Bool) (work made : Work) → Ok work ≡ (if b then Ok made else Err answers.Unbuilt) → (b ≡ true) × (work ≡ made)
+served_by true work made e = (refl, same_work work made e)
+served_by false work made e = absurd cc
+
+routed_from : (inputs : Inputs) (placed : Result (List (List Qubit)) PlaceFault) (work : Work) → Ok work ≡ from_placement inputs placed → Routed inputs placed work
+routed_from inputs (Ok placement) work e =
+    let parts = served_by (serves inputs.trap.zones (qubit_count inputs.circuit)) work (make (setting_of inputs.trap inputs.circuit placement)) e in
+    record { placement = placement; placed_is = refl; served = parts.0; work_is = parts.1 }
+routed_from inputs (Err fault) work e = absurd cc
+
+same_inputs : (a b : Inputs) → ◌≡◌ {A = Result Inputs Answer} (Ok a) (Ok b) → a ≡ b
+same_inputs a b e = cc
+
+pub planned_by : (found : Found) (circuit trap : List ℕ) (rule : PlaceRule) (work : Work) → Comes found (compile circuit trap rule None) (Ok work) → Planned found rule work
+planned_by found circuit_name trap_name rule work comes =
+    let whole = went _ _ work comes in
+    let first = went _ _ whole.x whole.is in
+    let second = went _ _ whole.x first.goes_on in
+    let inputs : Inputs = inputs_of first.x second.x in
+    let same : whole.x ≡ inputs = same_inputs whole.x inputs second.goes_on in
+    let plan : Ok work ≡ planned rule inputs = subst (λ (i : Inputs). Ok work ≡ planned rule i) same whole.goes_on in
+    let made = routed_from inputs (place_by inputs.trap inputs.circuit rule inputs.labels) work plan in
+    record {
+      circuit = first.x;
+      trap = second.x.0;
+      labels = second.x.1;
+      placement = made.placement;
+      circuit_is = first.is;
+      trap_is = second.is;
+      placement_is = made.placed_is;
+      served = made.served;
+      work_is = made.work_is;
+    }

@@ -1,5 +1,0 @@
-use Rattle.qccd.proofs.Spelled.{prefix_is}
-use Rattle.qccd.proofs.options.value_of.Goals as goal
-
-pub returns : goal.returns
-returns c = prefix_is c.args.front.now c.args.word.now c.strip_prefix.result c.strip_prefix.ensures.cases

@@ -1,0 +1,39 @@
+-- The headline: what a compilation that answers Ok wrote.
+use Rattle.std.specs.Prelude.{◌≡◌, ℕ, List, ◌++◌, codes, Option, Some, Ok, slice_get}
+use Rattle.qc_base.specs.declared.ids.OpId.{OpId}
+use Rattle.qc_base.specs.declared.ids.PlaceId.{PlaceId}
+use Rattle.qc_base.specs.declared.ids.Qubit.{Qubit}
+use Rattle.qc_base.specs.Sink.{Took}
+use Rattle.circuit_core.specs.Circuit.{CircuitValue}
+use Rattle.circuit_core.specs.declared.op.Op.{Op}
+use Rattle.trap_model.specs.Trap.{TrapValue, place_text}
+use Rattle.placement.specs.declared.rule.PlaceRule.{PlaceRule}
+use Rattle.placement.specs.Placing.{Table, place_by}
+use Rattle.step_rules.specs.declared.action.Action.{Action}
+use Rattle.step_rules.specs.declared.action.Action.TheVariants as actions
+use Rattle.step_rules.specs.Setting.{setting_of}
+use Rattle.step_rules.specs.Play.{Plays}
+use Rattle.schedule_text.specs.Text.{op_line, action_line, schedule_text}
+use Rattle.qccd.specs.Found.{Found}
+use Rattle.qccd.specs.Prepare.{CircuitOf, TrapOf}
+
+-- the line of an operation: its zone, its number, the ions on which the placement puts its qubits, and its text
+abbrev pub line_with_ions : TrapValue → CircuitValue → List (List Qubit) → PlaceId → OpId → Op → List ℕ
+line_with_ions trap circuit placement zone number op =
+    codes "op " ++ place_text trap zone.0 ++ codes " " ++ op_line circuit placement number.0 op
+
+-- The circuit and the trap are those of the files, the placement is that of the rule, the schedule obeys every rule of
+-- the trap in each step and performs each operation of the circuit once and in its order, and its text was taken.
+pub record Compiled (found : Found) (rule : PlaceRule) (before now : Option (List ℕ)) : Type 0 where
+  pub circuit : CircuitValue
+  pub circuit_is : CircuitOf found.circuit (Ok circuit)
+  pub trap : TrapValue
+  pub labels : Option Table
+  pub trap_is : TrapOf found.trap (Ok (trap, labels))
+  pub placement : List (List Qubit)
+  pub placement_is : place_by trap circuit rule labels ≡ Ok placement
+  pub schedule : List (List Action)
+  pub plays : Plays (setting_of trap circuit placement) schedule
+  pub named : (zone : PlaceId) (number : OpId) (op : Op) → slice_get circuit.ops number.0 ≡ Some op
+      → action_line (setting_of trap circuit placement) (actions.Op zone number) ≡ line_with_ions trap circuit placement zone number op
+  pub taken : Took before now (schedule_text (setting_of trap circuit placement) schedule)

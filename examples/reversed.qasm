@@ -1,0 +1,3 @@
+OPENQASM 2.0;
+qreg q[4];
+CX q[3],q[1];
