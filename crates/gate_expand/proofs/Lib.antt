@@ -17,3 +17,7 @@ pub mod SoundTable
 pub mod SoundLibrary
 pub mod SoundRegisters
 pub mod SoundProgram
+pub mod Adding
+pub mod Pieces
+pub mod Origins
+pub mod Owns

@@ -127,7 +127,7 @@ module _ (qubits bits cregs : ℕ) (table : Table) (sound : IsSoundTable qubits 
   reset_is (One qubit) is = λ index below. is
   reset_is (Each first size) is = λ index below. omega (arith, is.1, below)
 
-  operation_is : (said : Qop) (it : Resolved) → IsOperation said → qop_resolved table said ≡ Ok it → IsResolved table.gates qubits bits it
+  pub operation_is : (said : Qop) (it : Resolved) → IsOperation said → qop_resolved table said ≡ Ok it → IsResolved table.gates qubits bits it
   operation_is (qop.U exps arg) it is h =
       let step = then_ok (counts_fit (Some gate.Universal) (length exps) 1 >> all_qubits_of table (arg ∷ [])) (call_resolved 0 exps) it h in
       let parts = next_ok (counts_fit (Some gate.Universal) (length exps) 1) (all_qubits_of table (arg ∷ [])) step.0 step.1 in
@@ -386,7 +386,7 @@ module _ (now : Expansion) (sound : IsSound now) where
 
 -- ---- programs
 
-placed_ok : (at : ℕ) (r : Result Expansion Cause) (done : Expansion) → placed at r ≡ Ok done → r ≡ Ok done
+pub placed_ok : (at : ℕ) (r : Result Expansion Cause) (done : Expansion) → placed at r ≡ Ok done → r ≡ Ok done
 placed_ok at (Ok x) done h = ap Ok (same_Ok x done h)
 placed_ok at (Err cause) done h = absurd (never_ok (fault_at at cause) done h)
 

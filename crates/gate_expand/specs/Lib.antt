@@ -11,6 +11,7 @@ pub mod Declarations
 pub mod Operations
 pub mod Registers
 pub mod Program
+pub mod Origins
 pub mod RegisterLimits
 pub mod Noted
 pub mod LibraryRows

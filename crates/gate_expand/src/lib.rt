@@ -23,7 +23,10 @@ mod work;
 
 pub use expansion::expand;
 pub use fault::{Counted, ExpandFault};
-pub use laws::expanded_circuits_are_circuits;
+pub use laws::{
+    expanded_circuits_are_circuits, operations_come_from_statements,
+    programs_without_bodies_are_kept,
+};
 
 #[cfg(test)]
 mod tests;
