@@ -10,16 +10,16 @@ use Rattle.circuit_core.specs.declared.op.Op.{Op}
 use Rattle.circuit_core.specs.declared.op.Op.TheVariants as op
 use Rattle.circuit_core.specs.Circuit.{all_nodes, nodes_in}
 use Rattle.circuit_core.specs.Op.{angles_of}
-use Rattle.gate_expand.specs.declared.cause.Cause.{Cause}
-use Rattle.gate_expand.specs.declared.cause.Cause.TheVariants.{TooMany}
-use Rattle.gate_expand.specs.declared.fault.Counted.TheVariants.{Applications, Ops, Nodes}
-use Rattle.gate_expand.specs.declared.gate.Gate.{Gate}
-use Rattle.gate_expand.specs.declared.gate.Gate.TheVariants.{Universal, ControlledNot, Opaque, Body}
-use Rattle.gate_expand.specs.declared.gate.Item.{Item}
-use Rattle.gate_expand.specs.declared.gate.Item.TheVariants.{Call, Barrier}
-use Rattle.gate_expand.specs.declared.term.Term.{Term}
-use Rattle.gate_expand.specs.Causes.{◌>>=◌, ◌>>◌, refuse_if}
-use Rattle.gate_expand.specs.Terms.{put_all}
+use Rattle.gate_names.specs.declared.cause.Cause.{Cause}
+use Rattle.gate_names.specs.declared.cause.Cause.TheVariants.{TooMany}
+use Rattle.gate_names.specs.declared.cause.Counted.TheVariants.{Applications, Ops, Nodes}
+use Rattle.gate_names.specs.declared.gate.Gate.{Gate}
+use Rattle.gate_names.specs.declared.gate.Gate.TheVariants.{Universal, ControlledNot, Opaque, Body}
+use Rattle.gate_names.specs.declared.gate.Item.{Item}
+use Rattle.gate_names.specs.declared.gate.Item.TheVariants.{Call, Barrier}
+use Rattle.gate_names.specs.declared.term.Term.{Term}
+use Rattle.gate_names.specs.Causes.{◌>>=◌, ◌>>◌, refuse_if}
+use Rattle.gate_expand.specs.Angles.{put_all}
 use Rattle.gate_expand.specs.Making.{MadeValue, Maker, counted, with_op}
 use Rattle.gate_expand.specs.Expansion.{Performing, op_of, with_made, op_made, qubits_at, applied, item_made, items_made, gate_made, gate_at_made, performed, application_made}
 use Rattle.gate_expand.specs.Origins.{nothing}
@@ -53,11 +53,10 @@ counted_adds front made now h =
     let few : all < 100000 = leb-false 100000 all first.0 in
     let below : nat_le 100000 made.applications ≡ false = grind (arith, nat_tests) in
     let sum : all + 1 ≡ front.applications + (made.applications + 1) = omega arith in
-    let same : then ≡ with_more front more = (λ i. record { ops = front.ops ++ made.ops; applications = sum i }) in (
-      more,
+    let same : then ≡ with_more front more = (λ i. record { ops = front.ops ++ made.ops; applications = sum i }) in
+    (more,
       sym (same_Ok then now first.1) ∙ same,
-      ap (λ (b : Bool). refuse_if b (TooMany Applications) >> Ok more) below,
-    )
+      ap (λ (b : Bool). refuse_if b (TooMany Applications) >> Ok more) below)
 
 pub with_op_adds : (it : Op) → Adds (with_op it)
 with_op_adds it front made now h =
@@ -75,11 +74,10 @@ with_op_adds it front made now h =
     let less : all_nodes (made.ops ++ it ∷ []) ≤ 1000000 = omega (arith, nodes, sum) in
     let below : nat_le 10000 (length made.ops) ≡ false = grind (arith, nat_tests) in
     let small : nat_lt 1000000 (all_nodes (made.ops ++ it ∷ [])) ≡ false = grind (arith, nat_tests) in
-    let same : then ≡ with_more front more = (λ i. record { ops = joined i; applications = front.applications + made.applications }) in (
-      more,
+    let same : then ≡ with_more front more = (λ i. record { ops = joined i; applications = front.applications + made.applications }) in
+    (more,
       sym (same_Ok then now both.1) ∙ same,
-      (λ i. refuse_if (below i) (TooMany Ops) >> refuse_if (small i) (TooMany Nodes) >> Ok more),
-    )
+      (λ i. refuse_if (below i) (TooMany Ops) >> refuse_if (small i) (TooMany Nodes) >> Ok more))
 
 -- ---- one step after another
 

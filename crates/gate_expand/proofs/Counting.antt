@@ -2,8 +2,8 @@
 use Rattle.std.proofs.Common.{◌≡◌, ℕ, suc, ◌+◌, ◌-◌, ◌<◌, ◌≤◌, List, fold, Bool, true, false, ◌||◌, Result, Ok, Err, ap, sym, ◌∙◌, arith}
 use Rattle.qc_base.specs.declared.ids.Qubit.{Qubit}
 use Rattle.gate_expand.specs.declared.wires.Wires.{Wires}
-use Rattle.gate_expand.specs.declared.cause.Cause.{Cause}
-use Rattle.gate_expand.specs.Causes.{◌>>=◌}
+use Rattle.gate_names.specs.declared.cause.Cause.{Cause}
+use Rattle.gate_names.specs.Causes.{◌>>=◌}
 use Rattle.gate_expand.specs.Arguments.{repeats_at, repeats_from, each_from, with_qubit}
 use Rattle.gate_expand.specs.Making.{MadeValue, Maker}
 use Rattle.gate_expand.specs.Operations.{spread}
@@ -56,3 +56,8 @@ module _ (first index size : ℕ) (qubits : List Qubit) where
 
   pub each_done : size ≤ index → fold with_qubit qubits (each_from (first + index) (size - index)) ≡ qubits
   each_done h = ap (λ (n : ℕ). fold with_qubit qubits (each_from (first + index) n)) (none_less size index h)
+
+-- one index after another
+pub ruleset spreading = (spread_more, spread_stops, spread_done)
+
+pub ruleset repeating = (repeats_here, repeats_later, repeats_never)

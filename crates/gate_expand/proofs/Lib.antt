@@ -1,12 +1,6 @@
-pub mod Lookups
-pub mod Each
 pub mod Sums
-pub mod Refusals
-pub mod Formals
 pub mod Counting
 pub mod Working
-pub mod LibraryTables
-pub mod Tables
 pub mod SmallAngles
 pub mod Sound
 pub mod SoundSteps

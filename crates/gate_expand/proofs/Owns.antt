@@ -20,23 +20,24 @@ use Rattle.qasm_read.specs.declared.statement.Statement.{Statement}
 use Rattle.qasm_read.specs.declared.statement.Statement.TheVariants as statement
 use Rattle.qasm_read.specs.WellFormed.{IsOperation, IsWellFormed, AreWellFormed}
 use Rattle.gate_expand.specs.declared.expansion.Expansion.{Expansion}
-use Rattle.gate_expand.specs.declared.gate.Gate.{Gate}
-use Rattle.gate_expand.specs.declared.gate.Gate.TheVariants.{Universal, ControlledNot, Opaque, Body}
+use Rattle.gate_names.specs.declared.gate.Gate.{Gate}
+use Rattle.gate_names.specs.declared.gate.Gate.TheVariants.{Universal, ControlledNot, Opaque, Body}
 use Rattle.gate_expand.specs.declared.resolved.Resolved.{Resolved}
 use Rattle.gate_expand.specs.declared.resolved.Resolved.TheVariants as resolved
-use Rattle.gate_expand.specs.declared.term.Term.{Term}
+use Rattle.gate_names.specs.declared.term.Term.{Term}
 use Rattle.gate_expand.specs.declared.wires.Wires.{Wires}
 use Rattle.gate_expand.specs.declared.wires.Wires.TheVariants.{One, Each}
-use Rattle.gate_expand.specs.declared.cause.Cause.{Cause}
-use Rattle.gate_expand.specs.declared.cause.Cause.TheVariants.{TooMany, Repeated, AngleLarge, WideOp}
-use Rattle.gate_expand.specs.declared.fault.Counted.TheVariants.{Applications, Ops, Nodes}
-use Rattle.gate_expand.specs.Causes.{◌>>=◌, ◌>>◌, refuse_if}
-use Rattle.gate_expand.specs.Entries.{Table}
-use Rattle.gate_expand.specs.Gates.{has_body, param_count, qubit_count}
-use Rattle.gate_expand.specs.Terms.{terms_of, put, is_large, put_small, put_all}
-use Rattle.gate_expand.specs.Names.{gate_named, creg_named}
+use Rattle.gate_names.specs.declared.cause.Cause.{Cause}
+use Rattle.gate_names.specs.declared.cause.Cause.TheVariants.{TooMany, Repeated, AngleLarge, WideOp}
+use Rattle.gate_names.specs.declared.cause.Counted.TheVariants.{Applications, Ops, Nodes}
+use Rattle.gate_names.specs.Causes.{◌>>=◌, ◌>>◌, refuse_if}
+use Rattle.gate_names.specs.Entries.{Table}
+use Rattle.gate_names.specs.Gates.{has_body, param_count, qubit_count}
+use Rattle.gate_names.specs.Terms.{terms_of}
+use Rattle.gate_expand.specs.Angles.{put, is_large, put_small, put_all}
+use Rattle.gate_names.specs.Names.{gate_named, creg_named}
 use Rattle.gate_expand.specs.Arguments.{qubits_of, bits_of, all_qubits_of, times_of, repeats_from, distinct_qubits, qubit_at, wire_at}
-use Rattle.gate_expand.specs.Declarations.{counts_fit}
+use Rattle.gate_names.specs.Declarations.{counts_fit}
 use Rattle.gate_expand.specs.Making.{MadeValue, counted, with_op}
 use Rattle.gate_expand.specs.Expansion.{op_of, with_made, op_made, gate_made, gate_at_made, performed, application_made}
 use Rattle.gate_expand.specs.Operations.{call_resolved, measured_times, reset_resolved, qop_resolved}
@@ -120,16 +121,16 @@ module _ (gates : List Gate) (condition : Option Cond) (gate : ℕ) (params : Li
       let two = then_ok (put_all [] params) (λ (actual : List Angle). performed gates condition (length gates) gate actual qubits one.0) now one.2 in
       let angles : two.0 ≡ map (put []) params = put_is [] params two.0 two.1 in
       let steps : op_made condition takes.gate two.0 qubits one.0 ≡ Ok now =
-      sym (gate_is_op condition gates gate takes.gate two.0 qubits one.0 without)
-      ∙ sym (ap (λ (o : Option Gate). gate_at_made (performed gates condition gate) condition o two.0 qubits one.0) takes.there)
-      ∙ sym (performed_all gates condition two.0 qubits one.0 gate) ∙ two.2 in
+          sym (gate_is_op condition gates gate takes.gate two.0 qubits one.0 without)
+          ∙ sym (ap (λ (o : Option Gate). gate_at_made (performed gates condition gate) condition o two.0 qubits one.0) takes.there)
+          ∙ sym (performed_all gates condition two.0 qubits one.0 gate) ∙ two.2 in
       let three = then_ok (op_of condition takes.gate two.0 qubits) (λ (said : Option Op). with_made said one.0) now steps in
       let counts : length two.0 ≡ length params = ap length angles ∙ length-map params (put []) in
       let there = there_op condition takes.gate two.0 qubits three.0 without (counts ∙ takes.params_fit) takes.qubits_fit some three.1 in
       let empty : one.0.ops ≡ [] = ap (λ (m : MadeValue). m.ops) (sym still) ∙ none in
       let alone = op_alone there.0 one.0 now empty (subst (λ (o : Option Op). with_made o one.0 ≡ Ok now) there.1 three.2) in
       let moved : gate_op condition (slice_get gates gate) (map (put []) params) qubits ≡ gate_op condition (Some takes.gate) two.0 qubits =
-      (λ i. gate_op condition (takes.there i) (sym angles i) qubits) in
+          (λ i. gate_op condition (takes.there i) (sym angles i) qubits) in
       record {
         op = there.0;
         own = moved ∙ ap said_op three.1 ∙ there.1;
@@ -234,7 +235,7 @@ statement_own now sound (statement.If creg value said) it is h =
 piece_own : (program : List Placed) → AreWellFormed program → AppliesNoBody program → (piece : Piece) → IsPiece program piece → IsOwnPiece program piece
 piece_own program all without piece is =
     let sound = statements_keep (take piece.statement program) start is.now
-    (All-take (λ (p : Placed). IsWellFormed p.statement) piece.statement program all) start_sound is.before in
+        (All-take (λ (p : Placed). IsWellFormed p.statement) piece.statement program all) start_sound is.before in
     let said = all_here (λ (p : Placed). IsWellFormed p.statement) program piece.statement is.said all is.stands in
     let alone = statement_own is.now sound is.said.statement is.it said is.says (without piece is) piece.index is.made is.within is.makes in
     record { is = is; op = alone.op; own = alone.own; alone = is.whole ∙ alone.ops }

@@ -6,10 +6,10 @@ use Rattle.std.proofs.lemmas.Bool.Decides.{nat_tests}
 use Rattle.std.proofs.lemmas.List.Elements.{All-append, All-cons}
 use Rattle.circuit_core.specs.declared.angle.Angle.{Angle}
 use Rattle.circuit_core.specs.Angle.{nodes_of}
-use Rattle.gate_expand.specs.declared.term.Term.{Term}
-use Rattle.gate_expand.specs.declared.cause.Cause.TheVariants.{AngleLarge}
-use Rattle.gate_expand.specs.Causes.{◌>>◌, refuse_if}
-use Rattle.gate_expand.specs.Terms.{put, put_small, IsSmall, room_left}
+use Rattle.gate_names.specs.declared.term.Term.{Term}
+use Rattle.gate_names.specs.declared.cause.Cause.TheVariants.{AngleLarge}
+use Rattle.gate_names.specs.Causes.{◌>>◌, refuse_if}
+use Rattle.gate_expand.specs.Angles.{put, put_small, IsSmall, room_left}
 
 -- where there is room, it is small
 pub has_room : (nodes : ℕ) (found : Option ℕ) → found ≡ room_left 1000 nodes → is_some found ≡ true → nodes ≤ 1000

@@ -9,23 +9,23 @@ use Rattle.circuit_core.specs.Identifier.{is_identifier}
 use Rattle.circuit_core.specs.Op.{IsAngle, IsOp}
 use Rattle.circuit_core.specs.Reals.{IsShortReal}
 use Rattle.gate_expand.specs.declared.expansion.Expansion.{Expansion}
-use Rattle.gate_expand.specs.declared.gate.Gate.{Gate}
-use Rattle.gate_expand.specs.declared.gate.Gate.TheVariants.{Universal, ControlledNot, Opaque, Body}
-use Rattle.gate_expand.specs.declared.gate.Item.{Item}
-use Rattle.gate_expand.specs.declared.gate.Item.TheVariants.{Call, Barrier}
-use Rattle.gate_expand.specs.declared.names.Meaning.{Meaning}
-use Rattle.gate_expand.specs.declared.names.Meaning.TheVariants as meaning
+use Rattle.gate_names.specs.declared.gate.Gate.{Gate}
+use Rattle.gate_names.specs.declared.gate.Gate.TheVariants.{Universal, ControlledNot, Opaque, Body}
+use Rattle.gate_names.specs.declared.gate.Item.{Item}
+use Rattle.gate_names.specs.declared.gate.Item.TheVariants.{Call, Barrier}
+use Rattle.gate_names.specs.declared.names.Meaning.{Meaning}
+use Rattle.gate_names.specs.declared.names.Meaning.TheVariants as meaning
 use Rattle.gate_expand.specs.declared.resolved.Resolved.{Resolved}
 use Rattle.gate_expand.specs.declared.resolved.Resolved.TheVariants as resolved
-use Rattle.gate_expand.specs.declared.term.Term.{Term}
+use Rattle.gate_names.specs.declared.term.Term.{Term}
 use Rattle.gate_expand.specs.declared.wires.Wires.{Wires}
 use Rattle.gate_expand.specs.declared.wires.Wires.TheVariants.{One, Each}
 use Rattle.gate_expand.specs.Arguments.{qubit_at, wire_at}
-use Rattle.gate_expand.specs.Entries.{Entries, Table, meaning_in}
+use Rattle.gate_names.specs.Entries.{Entries, Table, meaning_in}
 use Rattle.gate_expand.specs.Expansion.{Performing}
-use Rattle.gate_expand.specs.Gates.{param_count, qubit_count}
+use Rattle.gate_names.specs.Gates.{param_count, qubit_count}
 use Rattle.gate_expand.specs.Making.{MadeValue, Maker}
-use Rattle.gate_expand.specs.Terms.{put}
+use Rattle.gate_expand.specs.Angles.{put}
 
 -- members of a kind, no two of them the same
 pub record AreApart {X : Type 0} (P : X → Type 0) (xs : List X) : Type 0 where

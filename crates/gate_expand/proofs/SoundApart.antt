@@ -10,7 +10,7 @@ use Rattle.qc_base.specs.declared.ids.Qubit.{Qubit}
 use Rattle.gate_expand.specs.declared.wires.Wires.{Wires}
 use Rattle.gate_expand.specs.declared.wires.Wires.TheVariants.{One, Each}
 use Rattle.gate_expand.specs.Arguments.{wire_at, qubit_at, has_number, repeats_at, repeats_from, is_qubit, with_qubit, all_in, each_from, with_all, distinct_qubits}
-use Rattle.gate_expand.specs.Declarations.{repeats_position, with_position}
+use Rattle.gate_names.specs.Declarations.{repeats_position, with_position}
 use Rattle.gate_expand.specs.Expansion.{qubits_at}
 use Rattle.gate_expand.proofs.Sound.{AreApart, IsBelow, IsQubit, AreWires}
 use Rattle.gate_expand.proofs.SoundSteps.{fold_keeps}

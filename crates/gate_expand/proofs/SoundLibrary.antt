@@ -4,14 +4,14 @@ use Rattle.std.specs.List.{list_all, AllByRecursion}
 use Rattle.std.proofs.lemmas.Bool.{and_parts, ltb-true, eqb-true, not-true, false≢true}
 use Rattle.std.proofs.lemmas.List.Elements.{All-nil, All-cons, All-from_recursion}
 use Rattle.circuit_core.specs.declared.words.BinOp.TheVariants.{Add, Sub, Div}
-use Rattle.gate_expand.specs.declared.gate.Gate.{Gate}
-use Rattle.gate_expand.specs.declared.gate.Gate.TheVariants.{Universal, ControlledNot, Opaque, Body}
-use Rattle.gate_expand.specs.declared.gate.Item.{Item}
-use Rattle.gate_expand.specs.declared.gate.Item.TheVariants.{Call, Barrier}
-use Rattle.gate_expand.specs.declared.term.Term.{Term}
-use Rattle.gate_expand.specs.Gates.{param_count, qubit_count}
-use Rattle.gate_expand.specs.Declarations.{repeats_position}
-use Rattle.gate_expand.specs.Library.{param, int, pi, minus, plus, less, over, built_in, u3_gate, u2_gate, u1_gate, cx_gate, id_gate, u_gate, p_gate, x_gate, y_gate, z_gate, h_gate, s_gate, sdg_gate, t_gate, tdg_gate, sx_gate, sxdg_gate, rx_gate, ry_gate, rz_gate, cz_gate, cy_gate, ch_gate, swap_gate, ccx_gate, cswap_gate, crx_gate, cry_gate, crz_gate, cu1_gate, cp_gate, cu3_gate, rxx_gate, rzz_gate}
+use Rattle.gate_names.specs.declared.gate.Gate.{Gate}
+use Rattle.gate_names.specs.declared.gate.Gate.TheVariants.{Universal, ControlledNot, Opaque, Body}
+use Rattle.gate_names.specs.declared.gate.Item.{Item}
+use Rattle.gate_names.specs.declared.gate.Item.TheVariants.{Call, Barrier}
+use Rattle.gate_names.specs.declared.term.Term.{Term}
+use Rattle.gate_names.specs.Gates.{param_count, qubit_count}
+use Rattle.gate_names.specs.Declarations.{repeats_position}
+use Rattle.gate_names.specs.Library.{param, int, pi, minus, plus, less, over, built_in, u3_gate, u2_gate, u1_gate, cx_gate, id_gate, u_gate, p_gate, x_gate, y_gate, z_gate, h_gate, s_gate, sdg_gate, t_gate, tdg_gate, sx_gate, sxdg_gate, rx_gate, ry_gate, rz_gate, cz_gate, cy_gate, ch_gate, swap_gate, ccx_gate, cswap_gate, crx_gate, cry_gate, crz_gate, cu1_gate, cp_gate, cu3_gate, rxx_gate, rzz_gate}
 use Rattle.gate_expand.proofs.Sound.{IsBelow, IsPut, Takes, IsItem, IsSoundGate}
 use Rattle.gate_expand.proofs.SoundApart.{positions_apart}
 use Rattle.gate_expand.proofs.SoundTerms.{put_int, put_pi, put_neg, put_bin, put_param}

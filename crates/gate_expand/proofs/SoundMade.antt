@@ -10,19 +10,19 @@ use Rattle.circuit_core.specs.declared.op.Op.{Op}
 use Rattle.circuit_core.specs.declared.op.Op.TheVariants as op
 use Rattle.circuit_core.specs.Circuit.{all_nodes}
 use Rattle.circuit_core.specs.Op.{IsAngle, IsOp}
-use Rattle.gate_expand.specs.declared.cause.Cause.{Cause}
-use Rattle.gate_expand.specs.declared.cause.Cause.TheVariants.{TooMany, WideOp}
-use Rattle.gate_expand.specs.declared.fault.Counted.TheVariants.{Applications, Ops, Nodes}
-use Rattle.gate_expand.specs.declared.gate.Gate.{Gate}
-use Rattle.gate_expand.specs.declared.gate.Gate.TheVariants.{Universal, ControlledNot, Opaque, Body}
-use Rattle.gate_expand.specs.declared.gate.Item.{Item}
-use Rattle.gate_expand.specs.declared.gate.Item.TheVariants.{Call, Barrier}
+use Rattle.gate_names.specs.declared.cause.Cause.{Cause}
+use Rattle.gate_names.specs.declared.cause.Cause.TheVariants.{TooMany, WideOp}
+use Rattle.gate_names.specs.declared.cause.Counted.TheVariants.{Applications, Ops, Nodes}
+use Rattle.gate_names.specs.declared.gate.Gate.{Gate}
+use Rattle.gate_names.specs.declared.gate.Gate.TheVariants.{Universal, ControlledNot, Opaque, Body}
+use Rattle.gate_names.specs.declared.gate.Item.{Item}
+use Rattle.gate_names.specs.declared.gate.Item.TheVariants.{Call, Barrier}
 use Rattle.gate_expand.specs.declared.resolved.Resolved.{Resolved}
 use Rattle.gate_expand.specs.declared.resolved.Resolved.TheVariants as resolved
-use Rattle.gate_expand.specs.declared.term.Term.{Term}
-use Rattle.gate_expand.specs.Causes.{◌>>=◌, ◌>>◌, refuse_if}
-use Rattle.gate_expand.specs.Terms.{put_all}
-use Rattle.gate_expand.specs.Gates.{param_count, qubit_count}
+use Rattle.gate_names.specs.declared.term.Term.{Term}
+use Rattle.gate_names.specs.Causes.{◌>>=◌, ◌>>◌, refuse_if}
+use Rattle.gate_expand.specs.Angles.{put_all}
+use Rattle.gate_names.specs.Gates.{param_count, qubit_count}
 use Rattle.gate_expand.specs.Making.{MadeValue, Maker, counted, with_op}
 use Rattle.gate_expand.specs.Expansion.{op_of, with_made, op_made, qubits_at, Performing, applied, item_made, items_made, gate_made, gate_at_made, performed}
 use Rattle.gate_expand.specs.Arguments.{qubit_at, wire_at}

@@ -20,27 +20,28 @@ use Rattle.qasm_read.specs.declared.statement.Statement.{Statement}
 use Rattle.qasm_read.specs.declared.statement.Statement.TheVariants as statement
 use Rattle.qasm_read.specs.WellFormed.{IsName, IsExpression, IsBodyItem, IsOperation, IsWellFormed, AreWellFormed}
 use Rattle.gate_expand.specs.declared.expansion.Expansion.{Expansion}
-use Rattle.gate_expand.specs.declared.gate.Gate.{Gate}
-use Rattle.gate_expand.specs.declared.gate.Gate.TheVariants as gate
-use Rattle.gate_expand.specs.declared.gate.Item.{Item}
-use Rattle.gate_expand.specs.declared.names.Meaning.{Meaning}
-use Rattle.gate_expand.specs.declared.names.Meaning.TheVariants as meaning
+use Rattle.gate_names.specs.declared.gate.Gate.{Gate}
+use Rattle.gate_names.specs.declared.gate.Gate.TheVariants as gate
+use Rattle.gate_names.specs.declared.gate.Item.{Item}
+use Rattle.gate_names.specs.declared.names.Meaning.{Meaning}
+use Rattle.gate_names.specs.declared.names.Meaning.TheVariants as meaning
 use Rattle.gate_expand.specs.declared.resolved.Resolved.{Resolved}
 use Rattle.gate_expand.specs.declared.resolved.Resolved.TheVariants as resolved
-use Rattle.gate_expand.specs.Entries.{Table}
-use Rattle.gate_expand.specs.declared.term.Term.{Term}
+use Rattle.gate_names.specs.Entries.{Table}
+use Rattle.gate_names.specs.declared.term.Term.{Term}
 use Rattle.gate_expand.specs.declared.wires.Wires.{Wires}
 use Rattle.gate_expand.specs.declared.wires.Wires.TheVariants.{One, Each}
-use Rattle.gate_expand.specs.declared.cause.Cause.{Cause}
-use Rattle.gate_expand.specs.declared.cause.Cause.TheVariants.{Include, Sizes, Repeated, SelfMeasure}
-use Rattle.gate_expand.specs.declared.fault.Counted.TheVariants.{Qubits, Bits}
-use Rattle.gate_expand.specs.Causes.{fault_at, ◌>>=◌, ◌>>◌, refuse_if}
-use Rattle.gate_expand.specs.Terms.{terms_of}
-use Rattle.gate_expand.specs.Library.{built_in}
-use Rattle.gate_expand.specs.Names.{named, with_gate, fresh, gate_named, creg_named}
+use Rattle.gate_names.specs.declared.cause.Cause.{Cause}
+use Rattle.gate_names.specs.declared.cause.Cause.TheVariants.{Include, Sizes, Repeated, SelfMeasure}
+use Rattle.gate_names.specs.declared.cause.Counted.TheVariants.{Qubits, Bits}
+use Rattle.gate_names.specs.Causes.{◌>>=◌, ◌>>◌, refuse_if}
+use Rattle.gate_expand.specs.Faults.{fault_at}
+use Rattle.gate_names.specs.Terms.{terms_of}
+use Rattle.gate_names.specs.Library.{built_in}
+use Rattle.gate_names.specs.Names.{named, with_gate, fresh, gate_named, creg_named}
 use Rattle.gate_expand.specs.Registers.{size_fits}
 use Rattle.gate_expand.specs.Arguments.{qubits_of, all_qubits_of, bits_of, size_after, times_of, wire_at, qubit_at, repeats_from, distinct_qubits}
-use Rattle.gate_expand.specs.Declarations.{counts_fit, formals_fit, items_of, opaque_declared, gate_declared}
+use Rattle.gate_names.specs.Declarations.{counts_fit, formals_fit, items_of, opaque_declared, gate_declared}
 use Rattle.gate_expand.specs.Making.{MadeValue, with_op}
 use Rattle.gate_expand.specs.Operations.{call_resolved, measured_times, reset_resolved, qop_resolved, measures_into, resolved_made}
 use Rattle.gate_expand.specs.Program.{start, included, qreg_declared, creg_declared, with_table, with_made, qop_done, conditional_done, barrier_done, statement_done, opaque_statement, gate_statement, conditional_statement, placed, statements_done, circuit_of, expanded}

@@ -8,13 +8,13 @@ use Rattle.std.proofs.lemmas.Option.{same_Some, none-some}
 use Rattle.circuit_core.specs.declared.circuit.Reg.{Reg}
 use Rattle.circuit_core.specs.Circuit.{IsRegister, HaveNamesOfTheirOwn, size_of}
 use Rattle.circuit_core.proofs.Lists.{slice_pushed}
-use Rattle.gate_expand.specs.declared.names.Meaning.{Meaning}
-use Rattle.gate_expand.specs.declared.names.Meaning.TheVariants as meaning
-use Rattle.gate_expand.specs.declared.cause.Cause.TheVariants.{Redeclared, Zero, TooMany}
-use Rattle.gate_expand.specs.declared.fault.Counted.{Counted}
-use Rattle.gate_expand.specs.Causes.{◌>>◌, refuse_if}
-use Rattle.gate_expand.specs.Entries.{Entries, Table, meaning_in}
-use Rattle.gate_expand.specs.Names.{fresh}
+use Rattle.gate_names.specs.declared.names.Meaning.{Meaning}
+use Rattle.gate_names.specs.declared.names.Meaning.TheVariants as meaning
+use Rattle.gate_names.specs.declared.cause.Cause.TheVariants.{Redeclared, Zero, TooMany}
+use Rattle.gate_names.specs.declared.cause.Counted.{Counted}
+use Rattle.gate_names.specs.Causes.{◌>>◌, refuse_if}
+use Rattle.gate_names.specs.Entries.{Entries, Table, meaning_in}
+use Rattle.gate_names.specs.Names.{fresh}
 use Rattle.gate_expand.specs.Registers.{size_fits}
 use Rattle.gate_expand.proofs.Sound.{IsQuantum, IsClassical, IsNamed, AreRegisters}
 use Rattle.gate_expand.proofs.SoundSteps.{next_ok, passed, passed_last, all_here}

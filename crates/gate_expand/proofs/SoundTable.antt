@@ -11,26 +11,26 @@ use Rattle.qasm_read.specs.declared.body_item.BodyItem.{BodyItem}
 use Rattle.qasm_read.specs.declared.body_item.BodyItem.TheVariants as item
 use Rattle.qasm_read.specs.declared.exp.Exp.{Exp}
 use Rattle.qasm_read.specs.WellFormed.{IsName, IsExpression, IsBodyItem}
-use Rattle.gate_expand.specs.declared.gate.Gate.{Gate}
-use Rattle.gate_expand.specs.declared.gate.Gate.TheVariants as gate
-use Rattle.gate_expand.specs.declared.gate.Item.{Item}
-use Rattle.gate_expand.specs.declared.gate.Item.TheVariants.{Call, Barrier}
-use Rattle.gate_expand.specs.declared.names.Meaning.{Meaning}
-use Rattle.gate_expand.specs.declared.names.Meaning.TheVariants as meaning
-use Rattle.gate_expand.specs.declared.term.Term.{Term}
+use Rattle.gate_names.specs.declared.gate.Gate.{Gate}
+use Rattle.gate_names.specs.declared.gate.Gate.TheVariants as gate
+use Rattle.gate_names.specs.declared.gate.Item.{Item}
+use Rattle.gate_names.specs.declared.gate.Item.TheVariants.{Call, Barrier}
+use Rattle.gate_names.specs.declared.names.Meaning.{Meaning}
+use Rattle.gate_names.specs.declared.names.Meaning.TheVariants as meaning
+use Rattle.gate_names.specs.declared.term.Term.{Term}
 use Rattle.gate_expand.specs.declared.wires.Wires.{Wires}
 use Rattle.gate_expand.specs.declared.wires.Wires.TheVariants.{One, Each}
-use Rattle.gate_expand.specs.declared.cause.Cause.{Cause}
-use Rattle.gate_expand.specs.declared.cause.Cause.TheVariants.{Undeclared, Redeclared, Kind, Index, Params, Args, Repeated, TooMany}
-use Rattle.gate_expand.specs.declared.fault.Counted.TheVariants.{Formals}
-use Rattle.gate_expand.specs.Causes.{◌>>=◌, ◌>>◌, refuse_if, found_or}
-use Rattle.gate_expand.specs.Terms.{position_of, terms_of}
-use Rattle.gate_expand.specs.Gates.{param_count, qubit_count}
-use Rattle.gate_expand.specs.Library.{library_names, first_library_gate}
-use Rattle.gate_expand.specs.Entries.{Table, meaning_in}
-use Rattle.gate_expand.specs.Names.{with_gate, library_meaning, meaning_of, fresh, as_gate, gate_named, as_creg, creg_named}
+use Rattle.gate_names.specs.declared.cause.Cause.{Cause}
+use Rattle.gate_names.specs.declared.cause.Cause.TheVariants.{Undeclared, Redeclared, Kind, Index, Params, Args, Repeated, TooMany}
+use Rattle.gate_names.specs.declared.cause.Counted.TheVariants.{Formals}
+use Rattle.gate_names.specs.Causes.{◌>>=◌, ◌>>◌, refuse_if, found_or}
+use Rattle.gate_names.specs.Terms.{position_of, terms_of}
+use Rattle.gate_names.specs.Gates.{param_count, qubit_count}
+use Rattle.gate_names.specs.Library.{library_names, first_library_gate}
+use Rattle.gate_names.specs.Entries.{Table, meaning_in}
+use Rattle.gate_names.specs.Names.{with_gate, library_meaning, meaning_of, fresh, as_gate, gate_named, as_creg, creg_named}
 use Rattle.gate_expand.specs.Arguments.{wires_in, qubits_in, qubits_of, all_qubits_of, bits_in, bits_of}
-use Rattle.gate_expand.specs.Declarations.{repeats_name, formals_fit, counts_fit, positions_of, repeats_position, with_position, call_of, item_of, items_of, opaque_declared, gate_declared}
+use Rattle.gate_names.specs.Declarations.{repeats_name, formals_fit, counts_fit, positions_of, repeats_position, with_position, call_of, item_of, items_of, opaque_declared, gate_declared}
 use Rattle.gate_expand.proofs.Sound.{IsBelow, Takes, IsItem, IsSoundGate, AreWires, IsInRange, IsSoundTable}
 use Rattle.gate_expand.proofs.SoundSteps.{same_Ok, never_ok, then_ok, next_ok, passed, passed_last, found, each_ok}
 use Rattle.gate_expand.proofs.SoundApart.{positions_apart, positions_folded, positions_some}

@@ -16,12 +16,13 @@ use Rattle.qasm_read.specs.declared.exp.Exp.{Exp, ind-Exp, roll-Exp, fold-roll-E
 use Rattle.qasm_read.specs.declared.exp.Exp.TheOpen.{Exp-F}
 use Rattle.qasm_read.specs.WellFormed.{IsExpression}
 use Rattle.qasm_read.specs.WellFormed.{reals_step as exp_reals_step, reals_of as exp_reals_of}
-use Rattle.gate_expand.specs.declared.cause.Cause.{Cause}
-use Rattle.gate_expand.specs.declared.cause.Cause.TheVariants.{Undeclared, AngleLarge}
-use Rattle.gate_expand.specs.declared.term.Term.{Term, roll-Term, fold-roll-Term, map-Term}
-use Rattle.gate_expand.specs.declared.term.Term.TheOpen.{Term-F}
-use Rattle.gate_expand.specs.Causes.{◌>>=◌, found_or}
-use Rattle.gate_expand.specs.Terms.{position_from, position_of, term_step, term_of, terms_of, put_step, put, is_large, put_small, put_all}
+use Rattle.gate_names.specs.declared.cause.Cause.{Cause}
+use Rattle.gate_names.specs.declared.cause.Cause.TheVariants.{Undeclared, AngleLarge}
+use Rattle.gate_names.specs.declared.term.Term.{Term, roll-Term, fold-roll-Term, map-Term}
+use Rattle.gate_names.specs.declared.term.Term.TheOpen.{Term-F}
+use Rattle.gate_names.specs.Causes.{◌>>=◌, found_or}
+use Rattle.gate_names.specs.Terms.{position_from, position_of, term_step, term_of, terms_of}
+use Rattle.gate_expand.specs.Angles.{put_step, put, is_large, put_small, put_all}
 use Rattle.gate_expand.proofs.Sound.{HasReals, IsPut}
 use Rattle.gate_expand.proofs.SoundSteps.{same_Ok, then_ok, passed, each_ok}
 

@@ -2,10 +2,10 @@
 use Rattle.std.proofs.Common.{◌≡◌, ℕ, ◌+◌, ◌<◌, ap, List, [], ◌∷◌, ◌++◌, arith, length, Bool, true, false, Ok, Err}
 use Rattle.std.specs.Prelude.{nat_le, nat_lt}
 use Rattle.std.proofs.lemmas.Bool.Decides.{nat_tests}
-use Rattle.gate_expand.specs.declared.cause.Cause.{Cause}
-use Rattle.gate_expand.specs.declared.cause.Cause.TheVariants.{TooMany}
-use Rattle.gate_expand.specs.declared.fault.Counted.TheVariants.{Nodes}
-use Rattle.gate_expand.specs.Causes.{◌>>◌, refuse_if}
+use Rattle.gate_names.specs.declared.cause.Cause.{Cause}
+use Rattle.gate_names.specs.declared.cause.Cause.TheVariants.{TooMany}
+use Rattle.gate_names.specs.declared.cause.Counted.TheVariants.{Nodes}
+use Rattle.gate_names.specs.Causes.{◌>>◌, refuse_if}
 use Rattle.gate_expand.specs.Making.{MadeValue, with_op}
 use Rattle.gate_expand.specs.Nodes.{nodes_fit}
 use Rattle.circuit_core.specs.declared.circuit.Reg.{Reg}

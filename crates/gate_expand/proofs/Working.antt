@@ -11,24 +11,25 @@ use Rattle.std.proofs.lemmas.Bool.Decides.{nat_tests}
 use Rattle.circuit_core.specs.declared.angle.Angle.{Angle}
 use Rattle.circuit_core.specs.declared.op.Cond.{Cond}
 use Rattle.qc_base.specs.declared.ids.Qubit.{Qubit}
-use Rattle.gate_expand.specs.declared.gate.Gate.{Gate}
-use Rattle.gate_expand.specs.declared.gate.Gate.TheVariants.{Universal, ControlledNot, Opaque, Body}
-use Rattle.gate_expand.specs.declared.gate.Item.{Item}
-use Rattle.gate_expand.specs.declared.gate.Item.TheVariants.{Call}
-use Rattle.gate_expand.specs.declared.cause.Cause.{Cause}
-use Rattle.gate_expand.specs.declared.cause.Cause.TheVariants as causes
-use Rattle.gate_expand.specs.Causes.{◌>>=◌, Leaves, Gives}
+use Rattle.gate_names.specs.declared.gate.Gate.{Gate}
+use Rattle.gate_names.specs.declared.gate.Gate.TheVariants.{Universal, ControlledNot, Opaque, Body}
+use Rattle.gate_names.specs.declared.gate.Item.{Item}
+use Rattle.gate_names.specs.declared.gate.Item.TheVariants.{Call}
+use Rattle.gate_names.specs.declared.cause.Cause.{Cause}
+use Rattle.gate_names.specs.declared.cause.Cause.TheVariants as causes
+use Rattle.gate_names.specs.Causes.{◌>>=◌, Leaves, Gives}
 use Rattle.gate_expand.specs.Making.{MadeValue, counted, with_op}
-use Rattle.gate_expand.specs.declared.fault.Counted.TheVariants.{Applications, Ops, Nodes}
+use Rattle.gate_names.specs.declared.cause.Counted.TheVariants.{Applications, Ops, Nodes}
 use Rattle.circuit_core.specs.declared.op.Op.{Op}
 use Rattle.circuit_core.specs.declared.op.Op.TheVariants as operation
 use Rattle.circuit_core.specs.Op.{HasSmallAngles}
 use Rattle.circuit_core.specs.Circuit.{all_nodes}
-use Rattle.gate_expand.specs.declared.term.Term.{Term}
-use Rattle.gate_expand.specs.Gates.{has_body}
-use Rattle.gate_expand.specs.GateOrder.{AreInOrder, CallsBelow, IsCallBelow}
-use Rattle.gate_expand.specs.Terms.{put_all, IsSmall}
+use Rattle.gate_names.specs.declared.term.Term.{Term}
+use Rattle.gate_names.specs.Gates.{has_body}
+use Rattle.gate_names.specs.GateOrder.{AreInOrder, CallsBelow, IsCallBelow}
+use Rattle.gate_expand.specs.Angles.{put_all, IsSmall}
 use Rattle.gate_expand.specs.Expansion.{Performing, performed, op_of, op_made, with_made, qubits_at, item_made, items_made, gate_made, gate_at_made, application_made}
+use Rattle.gate_names.proofs.Places.{drop_some}
 use Rattle.gate_expand.specs.WorkList.{FrameValue, advanced, body_of, entered, entered_first, frame_made, frames_made, LeavesWork, work_left, weight}
 
 -- ---- steps one after another
@@ -142,13 +143,6 @@ pub item_read : (gates seen : List Gate) (frame : FrameValue) (gate next : ℕ) 
 item_read gates seen frame gate next item s g n h = sym (h ∙ (λ i. slice_get (body_of (slice_get (s i) (g i))) (n i)))
 
 -- ---- a place in a list
-
-pub drop_some : {X : Type 0} (xs : List X) (i : ℕ) (x : X) → slice_get xs i ≡ Some x → drop i xs ≡ x ∷ drop (i + 1) xs
-drop_some {X} xs i x h = elim (slice_get_cases xs i).1 [
-  | inl w ↦ (let same : w.0 ≡ x = cc in
-      drop-cons xs i w.0 w.1 ∙ ap (λ (y : X). y ∷ drop (suc i) xs) (w.3 ∙ same) ∙ ap (λ (n : ℕ). x ∷ drop n xs) (sym (add-one i)))
-  | inr w ↦ (let clash : None ≡ Some x = sym w.1 ∙ h in absurd (cc))
-]
 
 pub drop_none : {X : Type 0} (xs : List X) (i : ℕ) → slice_get xs i ≡ None → drop i xs ≡ []
 drop_none {X} xs i h = elim (slice_get_cases xs i).1 [
@@ -317,3 +311,9 @@ small_op condition (Opaque name p q) angles (first ∷ second ∷ []) op s e =
 small_op condition (Opaque name p q) angles (first ∷ second ∷ third ∷ more) op s e =
     let clash : Err causes.WideOp ≡ Ok (Some op) = e in absurd (cc)
 small_op condition gate angles qubits op s e = let clash : Ok None ≡ Ok (Some op) = e in absurd (cc)
+
+-- ---- what functions are proved by
+
+pub ruleset entering = (enter_none, enter_body, enter_op, leaves_then, made_less)
+
+pub ruleset stepping = (step_none, step_done, step_refused, step_call, counted_less, with_op_less)

@@ -3,15 +3,15 @@ use Rattle.std.specs.Prelude.{ℕ, zero, suc, ◌+◌, List, [], ◌∷◌, ◌+
 use Rattle.std.specs.List.{list_any}
 use Rattle.qc_base.specs.declared.ids.Qubit.{Qubit}
 use Rattle.qasm_read.specs.declared.arg.Arg.{Arg}
-use Rattle.gate_expand.specs.declared.names.Meaning.{Meaning}
-use Rattle.gate_expand.specs.declared.names.Meaning.TheVariants.{Quantum, Classical, Gate}
+use Rattle.gate_names.specs.declared.names.Meaning.{Meaning}
+use Rattle.gate_names.specs.declared.names.Meaning.TheVariants.{Quantum, Classical, Gate}
 use Rattle.gate_expand.specs.declared.wires.Wires.{Wires}
 use Rattle.gate_expand.specs.declared.wires.Wires.TheVariants.{One, Each}
-use Rattle.gate_expand.specs.declared.cause.Cause.{Cause}
-use Rattle.gate_expand.specs.declared.cause.Cause.TheVariants.{Undeclared, Kind, Index, Sizes}
-use Rattle.gate_expand.specs.Entries.{Table}
-use Rattle.gate_expand.specs.Causes.{◌>>=◌, each, found_or}
-use Rattle.gate_expand.specs.Names.{meaning_of}
+use Rattle.gate_names.specs.declared.cause.Cause.{Cause}
+use Rattle.gate_names.specs.declared.cause.Cause.TheVariants.{Undeclared, Kind, Index, Sizes}
+use Rattle.gate_names.specs.Entries.{Table}
+use Rattle.gate_names.specs.Causes.{◌>>=◌, each, found_or}
+use Rattle.gate_names.specs.Names.{meaning_of}
 
 -- a register, or one of it by its index
 abbrev pub wires_in : ℕ → ℕ → Option ℕ → Result Wires Cause

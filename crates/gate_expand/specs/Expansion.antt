@@ -6,15 +6,15 @@ use Rattle.circuit_core.specs.declared.angle.Angle.{Angle}
 use Rattle.circuit_core.specs.declared.op.Cond.{Cond}
 use Rattle.circuit_core.specs.declared.op.Op.{Op}
 use Rattle.circuit_core.specs.declared.op.Op.TheVariants as op
-use Rattle.gate_expand.specs.declared.gate.Gate.{Gate}
-use Rattle.gate_expand.specs.declared.gate.Gate.TheVariants.{Universal, ControlledNot, Opaque, Body}
-use Rattle.gate_expand.specs.declared.gate.Item.{Item}
-use Rattle.gate_expand.specs.declared.gate.Item.TheVariants.{Call, Barrier}
-use Rattle.gate_expand.specs.declared.term.Term.{Term}
-use Rattle.gate_expand.specs.declared.cause.Cause.{Cause}
-use Rattle.gate_expand.specs.declared.cause.Cause.TheVariants.{WideOp}
-use Rattle.gate_expand.specs.Causes.{◌>>=◌}
-use Rattle.gate_expand.specs.Terms.{put_all}
+use Rattle.gate_names.specs.declared.gate.Gate.{Gate}
+use Rattle.gate_names.specs.declared.gate.Gate.TheVariants.{Universal, ControlledNot, Opaque, Body}
+use Rattle.gate_names.specs.declared.gate.Item.{Item}
+use Rattle.gate_names.specs.declared.gate.Item.TheVariants.{Call, Barrier}
+use Rattle.gate_names.specs.declared.term.Term.{Term}
+use Rattle.gate_names.specs.declared.cause.Cause.{Cause}
+use Rattle.gate_names.specs.declared.cause.Cause.TheVariants.{WideOp}
+use Rattle.gate_names.specs.Causes.{◌>>=◌}
+use Rattle.gate_expand.specs.Angles.{put_all}
 use Rattle.gate_expand.specs.Making.{Maker, counted, with_op}
 
 -- the operation of a gate without a body

@@ -2,10 +2,10 @@
 use Rattle.std.specs.Prelude.{ℕ, ◌+◌, List, [], ◌∷◌, ◌++◌, length, nat_le, nat_lt, Result, Ok}
 use Rattle.circuit_core.specs.declared.op.Op.{Op}
 use Rattle.circuit_core.specs.Circuit.{all_nodes}
-use Rattle.gate_expand.specs.declared.cause.Cause.{Cause}
-use Rattle.gate_expand.specs.declared.cause.Cause.TheVariants.{TooMany}
-use Rattle.gate_expand.specs.declared.fault.Counted.TheVariants.{Applications, Ops, Nodes}
-use Rattle.gate_expand.specs.Causes.{◌>>◌, refuse_if}
+use Rattle.gate_names.specs.declared.cause.Cause.{Cause}
+use Rattle.gate_names.specs.declared.cause.Cause.TheVariants.{TooMany}
+use Rattle.gate_names.specs.declared.cause.Counted.TheVariants.{Applications, Ops, Nodes}
+use Rattle.gate_names.specs.Causes.{◌>>◌, refuse_if}
 
 -- the operations so far, and how many applications were reached
 pub record MadeValue : Type 0 where

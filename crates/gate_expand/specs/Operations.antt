@@ -6,21 +6,21 @@ use Rattle.qasm_read.specs.declared.arg.Arg.{Arg}
 use Rattle.qasm_read.specs.declared.exp.Exp.{Exp}
 use Rattle.qasm_read.specs.declared.qop.Qop.{Qop}
 use Rattle.qasm_read.specs.declared.qop.Qop.TheVariants as qop
-use Rattle.gate_expand.specs.declared.gate.Gate.{Gate}
-use Rattle.gate_expand.specs.declared.gate.Gate.TheVariants.{Universal}
+use Rattle.gate_names.specs.declared.gate.Gate.{Gate}
+use Rattle.gate_names.specs.declared.gate.Gate.TheVariants.{Universal}
 use Rattle.gate_expand.specs.declared.resolved.Resolved.{Resolved}
 use Rattle.gate_expand.specs.declared.resolved.Resolved.TheVariants as resolved
 use Rattle.gate_expand.specs.declared.wires.Wires.{Wires}
 use Rattle.gate_expand.specs.declared.wires.Wires.TheVariants.{One, Each}
-use Rattle.gate_expand.specs.declared.cause.Cause.{Cause}
-use Rattle.gate_expand.specs.declared.cause.Cause.TheVariants.{Sizes, Repeated}
-use Rattle.gate_expand.specs.Entries.{Table}
-use Rattle.gate_expand.specs.Causes.{◌>>=◌, ◌>>◌, refuse_if}
-use Rattle.gate_expand.specs.declared.term.Term.{Term}
-use Rattle.gate_expand.specs.Terms.{terms_of}
-use Rattle.gate_expand.specs.Names.{gate_named}
+use Rattle.gate_names.specs.declared.cause.Cause.{Cause}
+use Rattle.gate_names.specs.declared.cause.Cause.TheVariants.{Sizes, Repeated}
+use Rattle.gate_names.specs.Entries.{Table}
+use Rattle.gate_names.specs.Causes.{◌>>=◌, ◌>>◌, refuse_if}
+use Rattle.gate_names.specs.declared.term.Term.{Term}
+use Rattle.gate_names.specs.Terms.{terms_of}
+use Rattle.gate_names.specs.Names.{gate_named}
 use Rattle.gate_expand.specs.Arguments.{all_qubits_of, qubits_of, bits_of, times_of, repeats_from, qubit_at, wire_at}
-use Rattle.gate_expand.specs.Declarations.{counts_fit}
+use Rattle.gate_names.specs.Declarations.{counts_fit}
 use Rattle.gate_expand.specs.Making.{Maker, with_op}
 use Rattle.gate_expand.specs.Expansion.{application_made}
 

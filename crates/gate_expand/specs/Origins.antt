@@ -9,14 +9,14 @@ use Rattle.qasm_read.specs.declared.statement.Placed.{Placed}
 use Rattle.qasm_read.specs.declared.statement.Statement.{Statement}
 use Rattle.qasm_read.specs.declared.statement.Statement.TheVariants as statement
 use Rattle.gate_expand.specs.declared.expansion.Expansion.{Expansion}
-use Rattle.gate_expand.specs.declared.gate.Gate.{Gate}
+use Rattle.gate_names.specs.declared.gate.Gate.{Gate}
 use Rattle.gate_expand.specs.declared.resolved.Resolved.{Resolved}
 use Rattle.gate_expand.specs.declared.resolved.Resolved.TheVariants as resolved
-use Rattle.gate_expand.specs.declared.cause.Cause.{Cause}
-use Rattle.gate_expand.specs.Causes.{◌>>=◌}
-use Rattle.gate_expand.specs.Terms.{put}
-use Rattle.gate_expand.specs.Gates.{has_body}
-use Rattle.gate_expand.specs.Names.{creg_named}
+use Rattle.gate_names.specs.declared.cause.Cause.{Cause}
+use Rattle.gate_names.specs.Causes.{◌>>=◌}
+use Rattle.gate_expand.specs.Angles.{put}
+use Rattle.gate_names.specs.Gates.{has_body}
+use Rattle.gate_names.specs.Names.{creg_named}
 use Rattle.gate_expand.specs.Arguments.{all_qubits_of, distinct_qubits, qubit_at, wire_at}
 use Rattle.gate_expand.specs.Making.{MadeValue, Maker, with_op}
 use Rattle.gate_expand.specs.Expansion.{op_of}

@@ -10,19 +10,20 @@ use Rattle.qasm_read.specs.declared.statement.Placed.{Placed}
 use Rattle.qasm_read.specs.declared.statement.Statement.{Statement}
 use Rattle.qasm_read.specs.declared.statement.Statement.TheVariants as statement
 use Rattle.gate_expand.specs.declared.expansion.Expansion.{Expansion}
-use Rattle.gate_expand.specs.declared.names.Meaning.TheVariants.{Quantum, Classical}
-use Rattle.gate_expand.specs.declared.cause.Cause.{Cause}
-use Rattle.gate_expand.specs.declared.cause.Cause.TheVariants.{Include, SelfMeasure}
-use Rattle.gate_expand.specs.declared.fault.Counted.TheVariants.{Qubits, Bits}
+use Rattle.gate_names.specs.declared.names.Meaning.TheVariants.{Quantum, Classical}
+use Rattle.gate_names.specs.declared.cause.Cause.{Cause}
+use Rattle.gate_names.specs.declared.cause.Cause.TheVariants.{Include, SelfMeasure}
+use Rattle.gate_names.specs.declared.cause.Counted.TheVariants.{Qubits, Bits}
 use Rattle.gate_expand.specs.declared.fault.ExpandFault.{ExpandFault}
 use Rattle.gate_expand.specs.declared.fault.ExpandFault.TheVariants as faults
-use Rattle.gate_expand.specs.Entries.{Table}
-use Rattle.gate_expand.specs.Causes.{fault_at, ◌>>=◌, ◌>>◌, refuse_if}
+use Rattle.gate_names.specs.Entries.{Table}
+use Rattle.gate_names.specs.Causes.{◌>>=◌, ◌>>◌, refuse_if}
+use Rattle.gate_expand.specs.Faults.{fault_at}
 use Rattle.gate_expand.specs.Registers.{size_fits}
-use Rattle.gate_expand.specs.Library.{built_in}
-use Rattle.gate_expand.specs.Names.{fresh, creg_named, named}
+use Rattle.gate_names.specs.Library.{built_in}
+use Rattle.gate_names.specs.Names.{fresh, creg_named, named}
 use Rattle.gate_expand.specs.Arguments.{all_qubits_of, distinct_qubits}
-use Rattle.gate_expand.specs.Declarations.{opaque_declared, gate_declared}
+use Rattle.gate_names.specs.Declarations.{opaque_declared, gate_declared}
 use Rattle.gate_expand.specs.Making.{MadeValue, with_op}
 use Rattle.gate_expand.specs.Operations.{qop_resolved, measures_into, resolved_made}
 

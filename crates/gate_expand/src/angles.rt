@@ -1,63 +1,18 @@
-//! Expressions as terms, and terms as angles.
+//! Angles for the parameters of a gate.
 
 ghost use Rattle.std.specs.Prelude.{◌≡◌, ◌≤◌, All, IfOk};
 ghost use Rattle.circuit_core.specs.Angle.{nodes_of};
-ghost use Rattle.gate_expand.specs.Causes.{Gives, found_or};
-ghost use Rattle.gate_expand.specs.Terms.{position_of, term_of, terms_of, put, put_all, IsSmall, room_left};
-ghost use Rattle.gate_expand.specs.declared.cause.Cause.TheVariants.{Undeclared};
+ghost use Rattle.gate_names.specs.Causes.{Gives};
+ghost use Rattle.gate_expand.specs.Angles.{put, put_all, IsSmall, room_left};
 
-use crate::cause::Cause;
-use crate::term::{Term, Terms};
 use circuit_core::Angle;
-use qasm_read::Exp;
-use qc_base::{Items, Name, NoMemory};
+use gate_names::{Cause, Term};
+use qc_base::NoMemory;
 use sqlite_items::Boxed;
 use std::alloc::Global;
 
 /// How many nodes an angle may have.
 const MAX_NODES: u32 = 1000;
-
-/// The position of a name among others.
-pub fn position(names: &[Name], name: &Name) -> Result<usize, Cause>
-    ensures { Gives (λ k. k) result (found_or (position_of names.now name.now) Undeclared) }
-{
-    for k in 0..names.len() {
-        if *name == names[k] {
-            return Ok(k);
-        }
-    }
-    Err(Cause::Undeclared)
-}
-
-/// The expression in these parameters.
-fn term_of(alloc: Global, params: &[Name], exp: &Exp) -> Result<Term, Cause>
-    ensures { Gives (λ term. term) result (term_of params.now exp.now) }
-{
-    match exp {
-        Exp::Real(text) => Ok(Term::Real(text.copy(alloc)?)),
-        Exp::Int(n) => Ok(Term::Int(*n)),
-        Exp::Pi => Ok(Term::Pi),
-        Exp::Neg(a) => Ok(Term::Neg(Boxed::new(alloc, term_of(alloc, params, a.get())?)?)),
-        Exp::Bin(op, a, b) => {
-            let a = term_of(alloc, params, a.get())?;
-            let b = term_of(alloc, params, b.get())?;
-            Ok(Term::Bin(*op, Boxed::new(alloc, a)?, Boxed::new(alloc, b)?))
-        }
-        Exp::Fun(f, a) => Ok(Term::Fun(*f, Boxed::new(alloc, term_of(alloc, params, a.get())?)?)),
-        Exp::Id(name) => Ok(Term::Param(position(params, name)?)),
-    }
-}
-
-/// The expressions in these parameters.
-pub fn terms_of(alloc: Global, params: &[Name], exps: &[Exp]) -> Result<Terms, Cause>
-    ensures { Gives (λ terms. terms) result (terms_of params.now exps.now) }
-{
-    let mut terms = Vec::new(alloc);
-    for exp in exps {
-        terms.push(term_of(alloc, params, exp)?)?;
-    }
-    Ok(Items::from_vec(terms))
-}
 
 /// What is left of the room for nodes, once the angles are put for the parameters; none where there is too little.
 fn room_after(room: u32, term: &Term, angles: &[Angle]) -> Option<u32>

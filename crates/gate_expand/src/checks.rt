@@ -1,19 +1,13 @@
 //! The tests of operations before their expansion.
 
 ghost use Rattle.std.specs.Prelude.{◌≡◌};
-ghost use Rattle.gate_expand.specs.Causes.{Gives};
+ghost use Rattle.gate_names.specs.Causes.{Gives};
 ghost use Rattle.gate_expand.specs.Arguments.{qubits_of, all_qubits_of, bits_of};
 ghost use Rattle.gate_expand.specs.Operations.{call_resolved, application_resolved, measured_times, measure_resolved, reset_resolved, qop_resolved, measures_into};
 
-use crate::angles::terms_of;
-use crate::cause::Cause;
-use crate::declarations::counts_fit;
-use crate::gate::Gate;
-use crate::gates::{CONTROLLED_NOT, UNIVERSAL};
-use crate::names::Meaning;
 use crate::resolved::Resolved;
-use crate::table::Table;
 use crate::wires::{Wires, repeats, times};
+use gate_names::{CONTROLLED_NOT, Cause, Gate, Meaning, Table, UNIVERSAL, counts_fit, terms_of};
 use qasm_read::{Arg, Exp, Qop};
 use qc_base::{Items, Name};
 use std::alloc::Global;

@@ -2,25 +2,20 @@
 
 ghost use Rattle.std.specs.Prelude.{◌≡◌, IfOk};
 ghost use Rattle.qasm_read.specs.WellFormed.{AreWellFormed};
-ghost use Rattle.gate_expand.specs.Causes.{Gives, Leaves};
+ghost use Rattle.gate_names.specs.Causes.{Gives, Leaves};
 ghost use Rattle.gate_expand.specs.Operations.{call_made, measure_made, reset_made, spread, resolved_made};
 ghost use Rattle.gate_expand.specs.Program.{start, included, qreg_declared, creg_declared, barrier_done, opaque_statement, gate_statement, qop_done, conditional_done, conditional_statement, statement_done, circuit_of, expanded, IsExpansion};
 ghost use Rattle.circuit_core.specs.Circuit.{IsCircuit};
 
-use crate::cause::Cause;
 use crate::checks::{all_qubits_of, measures_into, resolve};
-use crate::declarations::{declare_gate, declare_opaque};
-use crate::fault::{Counted, ExpandFault};
-use crate::gates::Gates;
+use crate::fault::ExpandFault;
 use crate::made::Made;
-use crate::names::Meaning;
 use crate::registers::{Registers, size_in};
 use crate::resolved::Resolved;
-use crate::table::Table;
-use crate::term::Term;
 use crate::wires::{Wires, distinct, qubits_at};
 use crate::work::apply;
 use circuit_core::{Circuit, Cond, Op};
+use gate_names::{Cause, Counted, Gates, Meaning, Table, Term, declare_gate, declare_opaque};
 use qasm_read::{Arg, BodyItem, Program, Qop, Statement};
 use qc_base::{Bit, CregId, Items, Name, NoMemory, Qubit};
 use std::alloc::Global;
@@ -41,7 +36,7 @@ pub struct Expansion {
 }
 
 /// An application at each index.
-#[tactic(auto, using(crate::proofs::Counting::spread_more, crate::proofs::Counting::spread_stops, crate::proofs::Counting::spread_done))]
+#[tactic(auto, using(crate::proofs::Counting::spreading))]
 fn make_calls(
     alloc: Global,
     gates: &Gates,
@@ -62,7 +57,7 @@ fn make_calls(
 }
 
 /// A measurement at each index.
-#[tactic(auto, using(crate::proofs::Counting::spread_more, crate::proofs::Counting::spread_stops, crate::proofs::Counting::spread_done))]
+#[tactic(auto, using(crate::proofs::Counting::spreading))]
 fn make_measures(
     cond: Option<Cond>,
     qubits: Wires,
@@ -83,7 +78,7 @@ fn make_measures(
 }
 
 /// A reset at each index.
-#[tactic(auto, using(crate::proofs::Counting::spread_more, crate::proofs::Counting::spread_stops, crate::proofs::Counting::spread_done))]
+#[tactic(auto, using(crate::proofs::Counting::spreading))]
 fn make_resets(cond: Option<Cond>, qubits: Wires, times: u16, made: &mut Made) -> Result<(), Cause>
     ensures { Leaves result made.new (spread (reset_made cond qubits) 0 times made.old) }
 {
@@ -319,7 +314,7 @@ pub fn expand(alloc: Global, program: &Program) -> Result<Circuit, ExpandFault>
     };
     for placed in program.items() {
         if let Err(cause) = expansion.statement(alloc, &placed.statement) {
-            return Err(cause.at(placed.at));
+            return Err(ExpandFault::new(cause, placed.at));
         }
     }
     Ok(expansion.finish())

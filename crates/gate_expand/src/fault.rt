@@ -1,17 +1,10 @@
 //! Why a program has no circuit.
 
-use thiserror::Error;
+ghost use Rattle.std.specs.Prelude.{◌≡◌};
+ghost use Rattle.gate_expand.specs.Faults.{fault_at};
 
-/// What there are too many of.
-#[derive(Clone, Copy, Debug, PartialEq, Eq)]
-pub enum Counted {
-    Qubits,
-    Bits,
-    Formals,
-    Applications,
-    Ops,
-    Nodes,
-}
+use gate_names::{Cause, Counted};
+use thiserror::Error;
 
 /// The first thing that is wrong with a program, and the byte where its statement begins.
 #[derive(Clone, Copy, Debug, PartialEq, Eq, Error)]
@@ -49,4 +42,29 @@ pub enum ExpandFault {
     TooMany { what: Counted, at: u64 },
     #[error("no memory")]
     NoMemory,
+}
+
+impl ExpandFault {
+    /// The fault of a statement that begins at that byte.
+    pub fn new(cause: Cause, at: u64) -> ExpandFault
+        ensures { result ≡ fault_at at cause }
+    {
+        match cause {
+            Cause::Include => ExpandFault::Include { at },
+            Cause::Undeclared => ExpandFault::Undeclared { at },
+            Cause::Redeclared => ExpandFault::Redeclared { at },
+            Cause::Kind => ExpandFault::Kind { at },
+            Cause::Params => ExpandFault::Params { at },
+            Cause::Args => ExpandFault::Args { at },
+            Cause::Index => ExpandFault::Index { at },
+            Cause::Zero => ExpandFault::Zero { at },
+            Cause::Sizes => ExpandFault::Sizes { at },
+            Cause::Repeated => ExpandFault::Repeated { at },
+            Cause::SelfMeasure => ExpandFault::SelfMeasure { at },
+            Cause::WideOp => ExpandFault::WideOp { at },
+            Cause::AngleLarge => ExpandFault::AngleLarge { at },
+            Cause::TooMany(what) => ExpandFault::TooMany { what, at },
+            Cause::NoMemory => ExpandFault::NoMemory,
+        }
+    }
 }

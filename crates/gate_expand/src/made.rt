@@ -3,14 +3,13 @@
 ghost use Rattle.std.specs.Prelude.{◌≡◌, ◌+◌, ◌≤◌, [], All};
 ghost use Rattle.circuit_core.specs.Circuit.{nodes_in, all_nodes};
 ghost use Rattle.circuit_core.specs.Op.{HasSmallAngles, angles_of};
-ghost use Rattle.gate_expand.specs.Causes.{Gives, Leaves};
-ghost use Rattle.gate_expand.specs.Terms.{IsSmall};
+ghost use Rattle.gate_names.specs.Causes.{Gives, Leaves};
+ghost use Rattle.gate_expand.specs.Angles.{IsSmall};
 ghost use Rattle.gate_expand.specs.Making.{counted, with_op};
 ghost use Rattle.gate_expand.specs.Nodes.{nodes_fit};
 
-use crate::cause::Cause;
-use crate::fault::Counted;
 use circuit_core::{Angle, Op};
+use gate_names::{Cause, Counted};
 use std::alloc::Global;
 use std::marker::Model;
 

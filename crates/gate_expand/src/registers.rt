@@ -2,12 +2,11 @@
 
 ghost use Rattle.std.specs.Prelude.{◌≡◌, ◌+◌, ◌<◌, ◌≤◌, [], ◌∷◌, ◌++◌, length, OnOk};
 ghost use Rattle.circuit_core.specs.Circuit.{size_of};
-ghost use Rattle.gate_expand.specs.Causes.{Gives};
+ghost use Rattle.gate_names.specs.Causes.{Gives};
 ghost use Rattle.gate_expand.specs.Registers.{size_fits};
 
-use crate::cause::Cause;
-use crate::fault::Counted;
 use circuit_core::Reg;
+use gate_names::{Cause, Counted};
 use qc_base::{Name, NoMemory};
 use std::alloc::Global;
 use std::marker::Model;

@@ -1,7 +1,7 @@
 //! Operations of the file that passed the tests before expansion.
 
-use crate::term::Terms;
 use crate::wires::Wires;
+use gate_names::Terms;
 use qc_base::Items;
 
 /// An operation, with names as numbers, and how often it is made.

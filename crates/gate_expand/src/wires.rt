@@ -2,10 +2,10 @@
 
 ghost use Rattle.std.specs.Prelude.{◌≡◌, fold, map, IfOk, OnOk};
 ghost use Rattle.std.specs.List.{list_any};
-ghost use Rattle.gate_expand.specs.Causes.{Gives};
+ghost use Rattle.gate_names.specs.Causes.{Gives};
 ghost use Rattle.gate_expand.specs.Arguments.{wires_in, times_of, has_number, wire_at, repeats_at, repeats_from, is_qubit, qubit_at, all_in, with_qubit, distinct_qubits};
 
-use crate::cause::Cause;
+use gate_names::Cause;
 use qc_base::{NoMemory, Qubit};
 use std::alloc::Global;
 
@@ -89,7 +89,7 @@ fn repeats_at(wires: &[Wires], index: u16) -> bool
 }
 
 /// Whether two of them have one number at one of the first indices.
-#[tactic(auto, using(crate::proofs::Counting::repeats_here, crate::proofs::Counting::repeats_later, crate::proofs::Counting::repeats_never))]
+#[tactic(auto, using(crate::proofs::Counting::repeating))]
 pub fn repeats(wires: &[Wires], times: u16) -> bool
     ensures { result ≡ repeats_from 0 times wires.now }
 {

@@ -2,18 +2,15 @@
 
 ghost use Rattle.std.specs.Prelude.{◌≡◌, ◌+◌, ◌≤◌, [], ◌∷◌, ◌++◌, ◌<◌, ◌^◌, slice_get, All, IfOk, OnOk, OnSome};
 ghost use Rattle.std.specs.Option.{option_copied};
-ghost use Rattle.gate_expand.specs.Causes.{Gives, Leaves};
+ghost use Rattle.gate_names.specs.Causes.{Gives, Leaves};
 ghost use Rattle.gate_expand.specs.Expansion.{op_of, op_made, qubits_at, application_made};
-ghost use Rattle.gate_expand.specs.Terms.{IsSmall};
+ghost use Rattle.gate_expand.specs.Angles.{IsSmall};
 ghost use Rattle.gate_expand.specs.WorkList.{universal_of, body_of, entered_first, frames_made, LeavesWork, weight};
 
 use crate::angles::put_all;
-use crate::cause::Cause;
-use crate::gate::{Gate, Item};
-use crate::gates::Gates;
 use crate::made::Made;
-use crate::term::Term;
 use circuit_core::{Angle, Cond, Op};
+use gate_names::{Cause, Gate, Gates, Item, Term};
 use qc_base::{Items, NoMemory, Qubit};
 use std::alloc::Global;
 use std::marker::Model;
@@ -30,7 +27,7 @@ struct Frame {
 impl Model for Frame {
     ghost use Rattle.std.specs.Prelude.{All};
     ghost use Rattle.circuit_core.specs.contracts.angle.Angle as angle;
-    ghost use Rattle.gate_expand.specs.Terms.{IsSmall};
+    ghost use Rattle.gate_expand.specs.Angles.{IsSmall};
     ghost use Rattle.gate_expand.specs.WorkList.{FrameValue};
     ghost use Rattle.std.specs.Coded.{codes};
 
@@ -144,7 +141,7 @@ fn make_op(
 }
 
 /// Performs the gate of a frame: makes its operation, or puts the frame on the list.
-#[tactic(auto, using(crate::proofs::Working::enter_none, crate::proofs::Working::enter_body, crate::proofs::Working::enter_op, crate::proofs::Working::leaves_then, crate::proofs::Working::made_less))]
+#[tactic(auto, using(crate::proofs::Working::entering))]
 fn enter(
     alloc: Global,
     gates: &Gates,
@@ -170,7 +167,7 @@ fn enter(
 }
 
 /// Does the next item of a frame, and puts back what is left of it.
-#[tactic(auto, using(crate::proofs::Working::step_none, crate::proofs::Working::step_done, crate::proofs::Working::step_refused, crate::proofs::Working::step_call, crate::proofs::Working::counted_less, crate::proofs::Working::with_op_less))]
+#[tactic(auto, using(crate::proofs::Working::stepping))]
 fn step(
     alloc: Global,
     gates: &Gates,

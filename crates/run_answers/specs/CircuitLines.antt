@@ -2,8 +2,8 @@
 use Rattle.std.specs.Prelude.{ℕ, List, [], ◌∷◌, codes, decimal}
 use Rattle.qasm_read.specs.declared.fault.QasmFault.{QasmFault}
 use Rattle.qasm_read.specs.declared.fault.QasmFault.TheVariants as faults
-use Rattle.gate_expand.specs.declared.fault.Counted.{Counted}
-use Rattle.gate_expand.specs.declared.fault.Counted.TheVariants as counts
+use Rattle.gate_names.specs.declared.cause.Counted.{Counted}
+use Rattle.gate_names.specs.declared.cause.Counted.TheVariants as counts
 use Rattle.gate_expand.specs.declared.fault.ExpandFault.{ExpandFault}
 use Rattle.gate_expand.specs.declared.fault.ExpandFault.TheVariants as expansions
 

@@ -1,10 +1,10 @@
 use Rattle.std.proofs.Common.{◌+◌, ◌≤◌, List, drop, ap, sym, ◌∙◌, subst}
 use Rattle.circuit_core.specs.declared.angle.Angle.{Angle}
 use Rattle.circuit_core.specs.Angle.{nodes_of}
-use Rattle.gate_expand.specs.Causes.{each, after}
-use Rattle.gate_expand.specs.Terms.{put, put_small}
+use Rattle.gate_names.specs.Causes.{each, after}
+use Rattle.gate_expand.specs.Angles.{put, put_small}
 use Rattle.gate_expand.proofs.SmallAngles.{has_room, put_is, small_more}
-use Rattle.gate_expand.proofs.Each.{each_more}
+use Rattle.gate_names.proofs.Each.{each_more}
 use Rattle.gate_expand.proofs.angles.put_all.Goals as goal
 
 pub loop-term-preserved : goal.loop-term-preserved

@@ -1,6 +1,6 @@
 use Rattle.std.proofs.Common.{◌≡◌, All, drop}
-use Rattle.gate_expand.specs.Causes.{each, after}
-use Rattle.gate_expand.specs.Terms.{put_small, IsSmall}
+use Rattle.gate_names.specs.Causes.{each, after}
+use Rattle.gate_expand.specs.Angles.{put_small, IsSmall}
 use Rattle.gate_expand.proofs.angles.put_all.Given as goal
 
 abbrev pub invariant-loop-term : goal.invariant-loop-term

@@ -1,5 +1,5 @@
 use Rattle.std.proofs.Common.{◌≡◌, drop}
-use Rattle.gate_expand.specs.Causes.{each, after}
+use Rattle.gate_names.specs.Causes.{each, after}
 use Rattle.gate_expand.specs.Arguments.{qubits_of}
 use Rattle.gate_expand.proofs.checks.all_qubits_of.Given as goal
 

@@ -1,7 +1,7 @@
 use Rattle.std.proofs.Common.{sym, ◌∙◌}
 use Rattle.gate_expand.specs.Expansion.{application_made}
 use Rattle.gate_expand.specs.Operations.{spread, call_made}
-use Rattle.gate_expand.proofs.Refusals.{leaves_on}
+use Rattle.gate_names.proofs.Refusals.{leaves_on}
 use Rattle.gate_expand.proofs.Counting.{spread_stops}
 use Rattle.gate_expand.proofs.expansion.make_calls.Goals as goal
 

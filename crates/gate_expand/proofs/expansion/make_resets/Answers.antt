@@ -2,7 +2,7 @@ use Rattle.std.proofs.Common.{sym, ◌∙◌}
 use Rattle.circuit_core.specs.declared.op.Op.TheVariants as op
 use Rattle.gate_expand.specs.Making.{with_op}
 use Rattle.gate_expand.specs.Operations.{spread, reset_made}
-use Rattle.gate_expand.proofs.Refusals.{leaves_on}
+use Rattle.gate_names.proofs.Refusals.{leaves_on}
 use Rattle.gate_expand.proofs.Counting.{spread_stops}
 use Rattle.gate_expand.proofs.expansion.make_resets.Goals as goal
 

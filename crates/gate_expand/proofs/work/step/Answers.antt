@@ -2,11 +2,11 @@ use Rattle.std.proofs.Common.{◌≡◌, List, [], ◌∷◌, ◌++◌, Some, Ok
 use Rattle.qc_base.specs.declared.ids.Qubit.{Qubit}
 use Rattle.circuit_core.specs.declared.angle.Angle.{Angle}
 use Rattle.circuit_core.specs.declared.op.Op.TheVariants as op
-use Rattle.gate_expand.specs.declared.cause.Cause.{Cause}
-use Rattle.gate_expand.specs.declared.gate.Item.TheVariants.{Call, Barrier}
+use Rattle.gate_names.specs.declared.cause.Cause.{Cause}
+use Rattle.gate_names.specs.declared.gate.Item.TheVariants.{Call, Barrier}
 use Rattle.gate_expand.specs.Expansion.{performed, qubits_at}
 use Rattle.gate_expand.specs.Making.{MadeValue, counted, with_op}
-use Rattle.gate_expand.specs.Terms.{put_all}
+use Rattle.gate_expand.specs.Angles.{put_all}
 use Rattle.gate_expand.specs.WorkList.{FrameValue, body_of, advanced, frames_made, entered_first, LeavesWork}
 use Rattle.gate_expand.proofs.Working.{item_read, step_refused, step_done, step_call, work_left_on, work_given_on, uncounted, too_large}
 use Rattle.gate_expand.proofs.work.step.Goals as goal

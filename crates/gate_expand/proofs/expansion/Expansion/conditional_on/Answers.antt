@@ -1,7 +1,7 @@
 use Rattle.std.proofs.Common.{ℕ, Result, ap, sym, subst}
-use Rattle.gate_expand.specs.declared.cause.Cause.{Cause}
+use Rattle.gate_names.specs.declared.cause.Cause.{Cause}
 use Rattle.gate_expand.specs.declared.expansion.Expansion.{Expansion}
-use Rattle.gate_expand.specs.Causes.{◌>>=◌, Leaves}
+use Rattle.gate_names.specs.Causes.{◌>>=◌, Leaves}
 use Rattle.gate_expand.specs.Program.{conditional_done, conditional_statement}
 use Rattle.gate_expand.proofs.expansion.Expansion.conditional_on.Goals as goal
 

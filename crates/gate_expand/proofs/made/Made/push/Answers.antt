@@ -3,7 +3,7 @@ use Rattle.circuit_core.specs.Circuit.{nodes_in}
 use Rattle.circuit_core.specs.Op.{angles_of}
 use Rattle.gate_expand.specs.Nodes.{nodes_fit}
 use Rattle.gate_expand.specs.Making.{with_op}
-use Rattle.gate_expand.proofs.Refusals.{left_on}
+use Rattle.gate_names.proofs.Refusals.{left_on}
 use Rattle.gate_expand.proofs.Sums.{op_refused}
 use Rattle.gate_expand.proofs.made.Made.push.Goals as goal
 

@@ -1,7 +1,0 @@
-use Rattle.std.proofs.Common.{◌≡◌, drop}
-use Rattle.gate_expand.specs.Causes.{after}
-use Rattle.gate_expand.specs.Declarations.{positions_of}
-use Rattle.gate_expand.proofs.declarations.positions_of.Given as goal
-
-abbrev pub invariant-loop-name : goal.invariant-loop-name
-invariant-loop-name l = after l.positions.items (positions_of l.formals (drop l.name-index l.names)) ≡ positions_of l.formals l.names

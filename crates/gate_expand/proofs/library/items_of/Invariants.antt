@@ -1,6 +1,0 @@
-use Rattle.std.proofs.Common.{◌≡◌, map, take}
-use Rattle.gate_expand.specs.LibraryRows.{item_of}
-use Rattle.gate_expand.proofs.library.items_of.Given as goal
-
-abbrev pub invariant-loop-call : goal.invariant-loop-call
-invariant-loop-call l = l.items.items ≡ map item_of (take l.call-index l.calls)

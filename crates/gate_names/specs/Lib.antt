@@ -1,0 +1,10 @@
+pub mod Causes
+pub mod Terms
+pub mod Gates
+pub mod Entries
+pub mod Library
+pub mod Names
+pub mod Declarations
+pub mod Noted
+pub mod LibraryRows
+pub mod GateOrder
