@@ -1,15 +1,14 @@
 -- What is made after other operations is what is made by itself.
-use Rattle.std.proofs.Common.{◌≡◌, ℕ, zero, suc, ◌+◌, ◌<◌, ◌≤◌, List, [], ◌∷◌, ◌++◌, length, slice_get, Bool, true, false, cond, Option, Some, None, Result, Ok, Err, refl, ap, sym, ◌∙◌, subst, arith, length-append, append_assoc}
+use Rattle.std.proofs.Common.{◌≡◌, ℕ, zero, suc, ◌+◌, ◌<◌, ◌≤◌, List, [], ◌∷◌, ◌++◌, length, slice_get, Bool, true, false, cond, Option, Some, None, Result, Ok, refl, ap, sym, ◌∙◌, subst, arith, length-append, append_assoc}
 use Rattle.std.specs.Prelude.{◌==◌, nat_le, nat_lt}
-use Rattle.std.proofs.lemmas.Bool.{cond_both, ltb-false, leb-false}
+use Rattle.std.proofs.lemmas.Bool.{ltb-false, leb-false}
 use Rattle.std.proofs.lemmas.Bool.Decides.{nat_tests}
 use Rattle.qc_base.specs.declared.ids.Qubit.{Qubit}
 use Rattle.circuit_core.specs.declared.angle.Angle.{Angle}
 use Rattle.circuit_core.specs.declared.op.Cond.{Cond}
 use Rattle.circuit_core.specs.declared.op.Op.{Op}
 use Rattle.circuit_core.specs.declared.op.Op.TheVariants as op
-use Rattle.circuit_core.specs.Circuit.{all_nodes, nodes_in}
-use Rattle.circuit_core.specs.Op.{angles_of}
+use Rattle.circuit_core.specs.Circuit.{all_nodes}
 use Rattle.gate_names.specs.declared.cause.Cause.{Cause}
 use Rattle.gate_names.specs.declared.cause.Cause.TheVariants.{TooMany}
 use Rattle.gate_names.specs.declared.cause.Counted.TheVariants.{Applications, Ops, Nodes}
@@ -22,7 +21,6 @@ use Rattle.gate_names.specs.Causes.{◌>>=◌, ◌>>◌, refuse_if}
 use Rattle.gate_expand.specs.Angles.{put_all}
 use Rattle.gate_expand.specs.Making.{MadeValue, Maker, counted, with_op}
 use Rattle.gate_expand.specs.Expansion.{Performing, op_of, with_made, op_made, qubits_at, applied, item_made, items_made, gate_made, gate_at_made, performed, application_made}
-use Rattle.gate_expand.specs.Origins.{nothing}
 use Rattle.gate_expand.proofs.SoundSteps.{same_Ok, then_ok, next_ok, passed, passed_last}
 
 -- what was made, and then more
@@ -53,10 +51,11 @@ counted_adds front made now h =
     let few : all < 100000 = leb-false 100000 all first.0 in
     let below : nat_le 100000 made.applications ≡ false = grind (arith, nat_tests) in
     let sum : all + 1 ≡ front.applications + (made.applications + 1) = omega arith in
-    let same : then ≡ with_more front more = (λ i. record { ops = front.ops ++ made.ops; applications = sum i }) in
-    (more,
+    let same : then ≡ with_more front more = (λ i. record { ops = front.ops ++ made.ops; applications = sum i }) in (
+      more,
       sym (same_Ok then now first.1) ∙ same,
-      ap (λ (b : Bool). refuse_if b (TooMany Applications) >> Ok more) below)
+      ap (λ (b : Bool). refuse_if b (TooMany Applications) >> Ok more) below,
+    )
 
 pub with_op_adds : (it : Op) → Adds (with_op it)
 with_op_adds it front made now h =
@@ -74,10 +73,11 @@ with_op_adds it front made now h =
     let less : all_nodes (made.ops ++ it ∷ []) ≤ 1000000 = omega (arith, nodes, sum) in
     let below : nat_le 10000 (length made.ops) ≡ false = grind (arith, nat_tests) in
     let small : nat_lt 1000000 (all_nodes (made.ops ++ it ∷ [])) ≡ false = grind (arith, nat_tests) in
-    let same : then ≡ with_more front more = (λ i. record { ops = joined i; applications = front.applications + made.applications }) in
-    (more,
+    let same : then ≡ with_more front more = (λ i. record { ops = joined i; applications = front.applications + made.applications }) in (
+      more,
       sym (same_Ok then now both.1) ∙ same,
-      (λ i. refuse_if (below i) (TooMany Ops) >> refuse_if (small i) (TooMany Nodes) >> Ok more))
+      (λ i. refuse_if (below i) (TooMany Ops) >> refuse_if (small i) (TooMany Nodes) >> Ok more),
+    )
 
 -- ---- one step after another
 

@@ -31,7 +31,7 @@ use Rattle.gate_expand.specs.Making.{MadeValue, Maker, with_op}
 use Rattle.gate_expand.specs.Operations.{spread, qop_resolved, measures_into, resolved_made}
 use Rattle.gate_expand.specs.Program.{start, included, qreg_declared, creg_declared, with_table, with_made, qop_done, conditional_done, barrier_done, statement_done, opaque_statement, gate_statement, conditional_statement, placed, statements_done, circuit_of, expanded}
 use Rattle.gate_expand.specs.declared.fault.ExpandFault.{ExpandFault}
-use Rattle.gate_expand.specs.Origins.{Written, operation_written, once, no_operation, written, Piece, IsBefore, nothing, IsPiece, ComeFrom}
+use Rattle.gate_expand.specs.Origins.{Written, operation_written, once, no_operation, written, Piece, nothing, IsPiece, ComeFrom}
 use Rattle.gate_expand.proofs.SoundSteps.{same_Ok, never_ok, then_ok, next_ok, passed}
 use Rattle.gate_expand.proofs.SoundProgram.{placed_ok}
 use Rattle.gate_expand.proofs.Adding.{with_more, Adds, nothing_adds, with_op_adds, application_adds}
@@ -65,29 +65,32 @@ module _ (number : ℕ) (make : ℕ → Maker) where
 
   spread_comes : ((index : ℕ) → Adds (make index)) → (index times : ℕ) (made now : MadeValue) → spread make index times made ≡ Ok now
       → (ops : List Op) × (now.ops ≡ made.ops ++ ops) × ComeFrom (IsAt number make index (index + times)) ops
-  spread_comes adds index zero made now h =
-      ([], ap (λ (m : MadeValue). m.ops) (sym (same_Ok made now h)) ∙ sym (append-nil made.ops),
-      none_come (IsAt number make index (index + 0)) (λ piece is. omega (arith, is.from, is.below)))
+  spread_comes adds index zero made now h = (
+    [],
+    ap (λ (m : MadeValue). m.ops) (sym (same_Ok made now h)) ∙ sym (append-nil made.ops),
+    none_come (IsAt number make index (index + 0)) (λ piece is. omega (arith, is.from, is.below)),
+  )
   spread_comes adds index (suc times) made now h =
       let step = then_ok (make index made) (spread make (index + 1) times) now h in
       let one = adds index made nothing step.0 (subst (λ (m : MadeValue). make index m ≡ Ok step.0) (sym (with_nothing made)) step.1) in
       let rest = spread_comes adds (index + 1) times step.0 now step.2 in
-      let piece : Piece = record { statement = number; index = index; ops = one.0.ops } in
-      (one.0.ops ++ rest.0,
-      rest.1 ∙ ap (λ (m : MadeValue). m.ops ++ rest.0) one.1 ∙ append_assoc made.ops one.0.ops rest.0,
-      both_come (IsAt number make index (index + 1)) (IsAt number make (index + 1) (index + 1 + times)) (IsAt number make index (index + suc times))
-      one.0.ops rest.0
-      (one_comes (IsAt number make index (index + 1)) piece
-      (record { number = refl; from = omega arith; below = omega arith; made = one.0; makes = one.2; whole = refl })
-      (only_one index one.0 one.2))
-      rest.2
-      (λ piece is. record { number = is.number; from = is.from; below = omega (arith, is.below); made = is.made; makes = is.makes; whole = is.whole })
-      (λ piece is. record { number = is.number; from = omega (arith, is.from); below = omega (arith, is.below); made = is.made; makes = is.makes; whole = is.whole })
-      (λ piece is. elim (cases_lt piece.index (index + 1)) [
-        | inl low ↦ inl (record { number = is.number; from = is.from; below = low; made = is.made; makes = is.makes; whole = is.whole })
-        | inr high ↦ inr (record { number = is.number; from = high; below = omega (arith, is.below); made = is.made; makes = is.makes; whole = is.whole })
-      ])
-      (λ first second a b. inr (a.number ∙ sym b.number, omega (arith, a.below, b.from))))
+      let piece : Piece = record { statement = number; index = index; ops = one.0.ops } in (
+        one.0.ops ++ rest.0,
+        rest.1 ∙ ap (λ (m : MadeValue). m.ops ++ rest.0) one.1 ∙ append_assoc made.ops one.0.ops rest.0,
+        both_come (IsAt number make index (index + 1)) (IsAt number make (index + 1) (index + 1 + times)) (IsAt number make index (index + suc times))
+            one.0.ops rest.0
+            (one_comes (IsAt number make index (index + 1)) piece
+            (record { number = refl; from = omega arith; below = omega arith; made = one.0; makes = one.2; whole = refl })
+            (only_one index one.0 one.2))
+            rest.2
+            (λ piece is. record { number = is.number; from = is.from; below = omega (arith, is.below); made = is.made; makes = is.makes; whole = is.whole })
+            (λ piece is. record { number = is.number; from = omega (arith, is.from); below = omega (arith, is.below); made = is.made; makes = is.makes; whole = is.whole })
+            (λ piece is. elim (cases_lt piece.index (index + 1)) [
+              | inl low ↦ inl (record { number = is.number; from = is.from; below = low; made = is.made; makes = is.makes; whole = is.whole })
+              | inr high ↦ inr (record { number = is.number; from = high; below = omega (arith, is.below); made = is.made; makes = is.makes; whole = is.whole })
+            ])
+            (λ first second a b. inr (a.number ∙ sym b.number, omega (arith, a.below, b.from))),
+      )
 
 -- ---- statements
 
@@ -288,22 +291,25 @@ module _ (first : ℕ) (begin mid : Expansion) (p : Placed) (program : List Plac
 
 statements_come : (program : List Placed) (first : ℕ) (begin done : Expansion) → statements_done program begin ≡ Ok done
     → (ops : List Op) × (done.made.ops ≡ begin.made.ops ++ ops) × ComeFrom (IsPieceFrom first begin program) ops
-statements_come [] first begin done h =
-    ([], ap (λ (e : Expansion). e.made.ops) (sym (same_Ok begin done h)) ∙ sym (append-nil begin.made.ops),
-    none_come (IsPieceFrom first begin []) (λ piece is. none-some is.said is.stands))
+statements_come [] first begin done h = (
+  [],
+  ap (λ (e : Expansion). e.made.ops) (sym (same_Ok begin done h)) ∙ sym (append-nil begin.made.ops),
+  none_come (IsPieceFrom first begin []) (λ piece is. none-some is.said is.stands),
+)
 statements_come (p ∷ program) first begin done h =
     let step = then_ok (placed p.at (statement_done p.statement begin)) (statements_done program) done h in
     let said = statement_says begin p.statement step.0 (placed_ok p.at (statement_done p.statement begin) step.0 step.1) in
     let parts = spread_comes first said.it.make said.adds 0 said.it.times begin.made step.0.made said.spreads in
-    let rest = statements_come program (first + 1) step.0 done step.2 in
-    (parts.0 ++ rest.0,
-    rest.1 ∙ ap (λ (l : List Op). l ++ rest.0) parts.1 ∙ append_assoc begin.made.ops parts.0 rest.0,
-    both_come (IsAt first said.it.make 0 (0 + said.it.times)) (IsPieceFrom (first + 1) step.0 program) (IsPieceFrom first begin (p ∷ program))
-    parts.0 rest.0 parts.2 rest.2
-    (here first begin step.0 p program step.1 said)
-    (later first begin step.0 p program step.1 said)
-    (λ piece is. here_or_later first begin step.0 p program step.1 said piece is is.k refl)
-    (λ one other a b. inl (omega (arith, a.number, b.number))))
+    let rest = statements_come program (first + 1) step.0 done step.2 in (
+      parts.0 ++ rest.0,
+      rest.1 ∙ ap (λ (l : List Op). l ++ rest.0) parts.1 ∙ append_assoc begin.made.ops parts.0 rest.0,
+      both_come (IsAt first said.it.make 0 (0 + said.it.times)) (IsPieceFrom (first + 1) step.0 program) (IsPieceFrom first begin (p ∷ program))
+          parts.0 rest.0 parts.2 rest.2
+          (here first begin step.0 p program step.1 said)
+          (later first begin step.0 p program step.1 said)
+          (λ piece is. here_or_later first begin step.0 p program step.1 said piece is is.k refl)
+          (λ one other a b. inl (omega (arith, a.number, b.number))),
+    )
 
 from_start : (program : List Placed) (piece : Piece) → IsPieceFrom 0 start program piece → IsPiece program piece
 from_start program piece is =

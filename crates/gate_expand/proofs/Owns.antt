@@ -1,5 +1,5 @@
 -- Where no gate with a body is applied, each piece is its statement's own operation.
-use Rattle.std.proofs.Common.{◌≡◌, ℕ, zero, suc, ◌+◌, ◌<◌, ◌≤◌, List, [], ◌∷◌, ◌++◌, length, map, take, slice_get, Bool, true, false, Option, Some, None, Result, Ok, Err, refl, ap, sym, ◌∙◌, subst, arith, All}
+use Rattle.std.proofs.Common.{◌≡◌, ℕ, ◌+◌, ◌<◌, ◌≤◌, List, [], ◌∷◌, ◌++◌, length, map, take, slice_get, false, Option, Some, None, Result, Ok, refl, ap, sym, ◌∙◌, subst, arith}
 use Rattle.std.proofs.lemmas.List.{length-map}
 use Rattle.std.proofs.lemmas.List.Elements.{All-take}
 use Rattle.std.proofs.lemmas.Bool.{false≢true}
@@ -121,16 +121,16 @@ module _ (gates : List Gate) (condition : Option Cond) (gate : ℕ) (params : Li
       let two = then_ok (put_all [] params) (λ (actual : List Angle). performed gates condition (length gates) gate actual qubits one.0) now one.2 in
       let angles : two.0 ≡ map (put []) params = put_is [] params two.0 two.1 in
       let steps : op_made condition takes.gate two.0 qubits one.0 ≡ Ok now =
-          sym (gate_is_op condition gates gate takes.gate two.0 qubits one.0 without)
-          ∙ sym (ap (λ (o : Option Gate). gate_at_made (performed gates condition gate) condition o two.0 qubits one.0) takes.there)
-          ∙ sym (performed_all gates condition two.0 qubits one.0 gate) ∙ two.2 in
+      sym (gate_is_op condition gates gate takes.gate two.0 qubits one.0 without)
+      ∙ sym (ap (λ (o : Option Gate). gate_at_made (performed gates condition gate) condition o two.0 qubits one.0) takes.there)
+      ∙ sym (performed_all gates condition two.0 qubits one.0 gate) ∙ two.2 in
       let three = then_ok (op_of condition takes.gate two.0 qubits) (λ (said : Option Op). with_made said one.0) now steps in
       let counts : length two.0 ≡ length params = ap length angles ∙ length-map params (put []) in
       let there = there_op condition takes.gate two.0 qubits three.0 without (counts ∙ takes.params_fit) takes.qubits_fit some three.1 in
       let empty : one.0.ops ≡ [] = ap (λ (m : MadeValue). m.ops) (sym still) ∙ none in
       let alone = op_alone there.0 one.0 now empty (subst (λ (o : Option Op). with_made o one.0 ≡ Ok now) there.1 three.2) in
       let moved : gate_op condition (slice_get gates gate) (map (put []) params) qubits ≡ gate_op condition (Some takes.gate) two.0 qubits =
-          (λ i. gate_op condition (takes.there i) (sym angles i) qubits) in
+      (λ i. gate_op condition (takes.there i) (sym angles i) qubits) in
       record {
         op = there.0;
         own = moved ∙ ap said_op three.1 ∙ there.1;
@@ -235,7 +235,7 @@ statement_own now sound (statement.If creg value said) it is h =
 piece_own : (program : List Placed) → AreWellFormed program → AppliesNoBody program → (piece : Piece) → IsPiece program piece → IsOwnPiece program piece
 piece_own program all without piece is =
     let sound = statements_keep (take piece.statement program) start is.now
-        (All-take (λ (p : Placed). IsWellFormed p.statement) piece.statement program all) start_sound is.before in
+    (All-take (λ (p : Placed). IsWellFormed p.statement) piece.statement program all) start_sound is.before in
     let said = all_here (λ (p : Placed). IsWellFormed p.statement) program piece.statement is.said all is.stands in
     let alone = statement_own is.now sound is.said.statement is.it said is.says (without piece is) piece.index is.made is.within is.makes in
     record { is = is; op = alone.op; own = alone.own; alone = is.whole ∙ alone.ops }

@@ -1,5 +1,5 @@
 -- Where the operations of a circuit come from: each from one operation of the file, at one index of its spreading.
-use Rattle.std.specs.Prelude.{◌≡◌, ◌⊎◌, ℕ, ◌<◌, List, [], ◌∷◌, map, take, flat_map, slice_get, Bool, true, false, Option, Some, None, Result, Ok, Err, All, AllPairs, Contains}
+use Rattle.std.specs.Prelude.{◌≡◌, ◌⊎◌, ℕ, ◌<◌, List, [], ◌∷◌, map, take, flat_map, slice_get, Bool, false, Option, Some, None, Result, Ok, Err, All, AllPairs, Contains}
 use Rattle.qc_base.specs.declared.ids.Qubit.{Qubit}
 use Rattle.circuit_core.specs.declared.angle.Angle.{Angle}
 use Rattle.circuit_core.specs.declared.op.Cond.{Cond}
