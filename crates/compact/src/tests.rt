@@ -1,0 +1,495 @@
+//! Tight schedules of short lists.
+
+ghost use Rattle.std.specs.Prelude.{◌≡◌, ℕ, ◌*◌, ◌<◌, ◌≤◌, ◌↔◌, length, IsTrue, All, IfOk, IfSome};
+ghost use Rattle.circuit_core.specs.Op.{IsOp, angles_of};
+ghost use Rattle.circuit_core.specs.Circuit.{nodes_in, all_nodes, qubit_count};
+ghost use Rattle.trap_model.specs.Names.{is_name};
+ghost use Rattle.trap_model.specs.Build.{AreNames};
+ghost use Rattle.step_rules.specs.Placement.{IsPlacement, start_of};
+ghost use Rattle.step_rules.specs.Play.{AreLegal, one_at_a_time};
+ghost use Rattle.compact.specs.Tightened.{StandInOrder};
+ghost use Rattle.compact.specs.Orders.{IsPerformedAt, Precedes};
+ghost use Rattle.circuit_core.specs.Order.{Forced};
+
+use crate::tight::tighten;
+use circuit_core::{Angle, Circuit, Cond, Op, Qubits, Reg, forced};
+use qc_base::{Bit, CregId, End, Name, NoMemory, OpId, PlaceId, Qubit};
+use std::alloc::Global;
+use std::process::Abort;
+use std::test::Fail;
+use step_rules::{Action, Config, GivenFault, Placement, Schedule, Setting, enabled};
+use trap_model::{EndName, JoinPart, SegmentPart, Trap, TrapParts, ZonePart};
+
+fn zone(alloc: Global, name: &[u8]) -> Result<ZonePart, NoMemory>
+    requires { IsTrue (is_name name.now) }
+    ensures { IfOk result (λ zone. IsTrue (is_name zone.name)) }
+{
+    Ok(ZonePart {
+        name: Name::from_bytes(alloc, name)?,
+        capacity: 6,
+        one: true,
+        two: true,
+        read: true,
+    })
+}
+
+fn zones(alloc: Global) -> Result<Vec<ZonePart>, NoMemory>
+    ensures { IfOk result (λ zones. All (λ zone. IsTrue (is_name zone.name)) zones.items) }
+{
+    let mut zones = Vec::new(alloc);
+    zones.push(zone(alloc, b"A")?)?;
+    zones.push(zone(alloc, b"B")?)?;
+    Ok(zones)
+}
+
+fn segments(alloc: Global) -> Result<Vec<SegmentPart>, NoMemory>
+    ensures { IfOk result (λ segments. All (λ segment. IsTrue (is_name segment.name)) segments.items) }
+{
+    let mut segments = Vec::new(alloc);
+    segments.push(SegmentPart {
+        name: Name::from_bytes(alloc, b"s")?,
+        slots: 1,
+        load: 1,
+    })?;
+    Ok(segments)
+}
+
+fn junctions(alloc: Global) -> Vec<Name>
+    ensures { AreNames result.items }
+{
+    Vec::new(alloc)
+}
+
+fn end_name(alloc: Global, name: &[u8], end: End) -> Result<EndName, NoMemory> {
+    Ok(EndName {
+        name: Name::from_bytes(alloc, name)?,
+        end: Some(end),
+    })
+}
+
+fn joins(alloc: Global) -> Result<Vec<JoinPart>, NoMemory> {
+    let mut parts = Vec::new(alloc);
+    parts.push(JoinPart {
+        first: end_name(alloc, b"A", End::B)?,
+        second: end_name(alloc, b"s", End::A)?,
+    })?;
+    parts.push(JoinPart {
+        first: end_name(alloc, b"B", End::A)?,
+        second: end_name(alloc, b"s", End::B)?,
+    })?;
+    Ok(parts)
+}
+
+// Zones A and B with room for six ions each, and a segment of one slot between them.
+fn two_zones(alloc: Global) -> Result<Trap, Fail> {
+    let parts = TrapParts {
+        zones: zones(alloc)?,
+        segments: segments(alloc)?,
+        junctions: junctions(alloc),
+        joins: joins(alloc)?,
+    };
+    let trap = Trap::build(alloc, parts)?;
+    Ok(trap)
+}
+
+// An operation on eight qubits and eight bits: a gate on a qubit, a gate on a qubit and the next, a barrier on qubits 0
+// and 4 or on all, a measurement of a qubit into a bit, and a gate on a qubit under a condition on the bits.
+#[derive(Clone, Copy, Debug, PartialEq, Eq)]
+enum Sort {
+    Turn(u32),
+    Pair(u32),
+    Wall,
+    WallOverAll,
+    Read(u32, u32),
+    When(u32),
+}
+
+fn turn(qubit: u32, cond: Option<Cond>) -> Op
+    requires qubit { qubit < 8 }
+    requires cond { IfSome cond (λ cond. cond.creg.0 < 1) }
+    ensures op { IsOp 8 8 1 result }
+    ensures nodes { nodes_in (angles_of result) ≡ 3 }
+{
+    Op::U {
+        theta: Angle::Pi,
+        phi: Angle::Pi,
+        lambda: Angle::Pi,
+        qubit: Qubit(qubit),
+        cond,
+    }
+}
+
+fn wall(alloc: Global) -> Result<Op, NoMemory>
+    ensures op { IfOk result (IsOp 8 8 1) }
+    ensures nodes { IfOk result (λ op. nodes_in (angles_of op) ≡ 0) }
+{
+    let qubits = Vec::from_array(alloc, [Qubit(0), Qubit(4)])?;
+    Ok(Op::Barrier {
+        qubits: Qubits::from_vec(qubits),
+    })
+}
+
+fn wall_over_all(alloc: Global) -> Result<Op, NoMemory>
+    ensures op { IfOk result (IsOp 8 8 1) }
+    ensures nodes { IfOk result (λ op. nodes_in (angles_of op) ≡ 0) }
+{
+    let qubits = [
+        Qubit(0),
+        Qubit(1),
+        Qubit(2),
+        Qubit(3),
+        Qubit(4),
+        Qubit(5),
+        Qubit(6),
+        Qubit(7),
+    ];
+    let qubits = Vec::from_array(alloc, qubits)?;
+    Ok(Op::Barrier {
+        qubits: Qubits::from_vec(qubits),
+    })
+}
+
+// The operation of that sort.
+fn op_of(rt: &impl Abort, alloc: Global, sort: Sort) -> Result<Op, NoMemory>
+    ensures op { IfOk result (IsOp 8 8 1) }
+    ensures nodes { IfOk result (λ op. nodes_in (angles_of op) ≤ 3) }
+{
+    match sort {
+        Sort::Turn(qubit) => {
+            assert!(rt; qubit < 8);
+            Ok(turn(qubit, None))
+        }
+        Sort::Pair(qubit) => {
+            assert!(rt; qubit < 7);
+            Ok(Op::Cx {
+                control: Qubit(qubit),
+                target: Qubit(qubit + 1),
+                cond: None,
+            })
+        }
+        Sort::Wall => wall(alloc),
+        Sort::WallOverAll => wall_over_all(alloc),
+        Sort::Read(qubit, bit) => {
+            assert!(rt; qubit < 8 && bit < 8);
+            Ok(Op::Measure {
+                qubit: Qubit(qubit),
+                bit: Bit(bit),
+                cond: None,
+            })
+        }
+        Sort::When(qubit) => {
+            assert!(rt; qubit < 8);
+            let cond = Cond {
+                creg: CregId(0),
+                value: 1,
+            };
+            Ok(turn(qubit, Some(cond)))
+        }
+    }
+}
+
+fn ops_of(rt: &impl Abort, alloc: Global, sorts: &[Sort]) -> Result<Vec<Op>, NoMemory>
+    ensures ops { IfOk result (λ ops. All (IsOp 8 8 1) ops.items) }
+    ensures nodes { IfOk result (λ ops. all_nodes ops.items ≤ 3 * length ops.items) }
+{
+    let mut ops = Vec::new(alloc);
+    for sort in sorts {
+        ops.push(op_of(rt, alloc, *sort)?)?;
+    }
+    Ok(ops)
+}
+
+// A circuit of operations of these sorts.
+fn circuit_of(rt: &impl Abort, alloc: Global, sorts: &[Sort]) -> Result<Circuit, NoMemory>
+    ensures { IfOk result (λ circuit. qubit_count circuit ≡ 8) }
+{
+    let ops = ops_of(rt, alloc, sorts)?;
+    assert!(rt; ops.len() <= 20);
+    circuit_on(alloc, ops)
+}
+
+// Eight qubits and a register of eight bits, and these operations on them.
+fn circuit_on(alloc: Global, ops: Vec<Op>) -> Result<Circuit, NoMemory>
+    requires ops { All (IsOp 8 8 1) ops.items }
+    requires few { length ops.items ≤ 20 }
+    requires nodes { all_nodes ops.items ≤ 60 }
+    ensures { IfOk result (λ circuit. qubit_count circuit ≡ 8) }
+{
+    let qubits = Reg {
+        name: Name::from_bytes(alloc, b"q")?,
+        size: 8,
+    };
+    let bits = Reg {
+        name: Name::from_bytes(alloc, b"c")?,
+        size: 8,
+    };
+    let qregs = Vec::from_array(alloc, [qubits])?;
+    let cregs = Vec::from_array(alloc, [bits])?;
+    Ok(Circuit::new(qregs, cregs, ops))
+}
+
+fn are_below(qubits: &[Qubit], count: u32) -> bool
+    ensures { IsTrue result → All (λ qubit. qubit.0 < count) qubits.now }
+{
+    qubits.iter().all(|qubit| qubit.0 < count)
+}
+
+// Qubits 0 to 3 in zone A, 4 to 7 in zone B.
+fn placed(
+    rt: &impl Abort,
+    alloc: Global,
+    trap: &Trap,
+    circuit: &Circuit,
+) -> Result<Placement, GivenFault>
+    ensures { IfOk result (IsPlacement trap.now circuit.now) }
+{
+    let low = [Qubit(0), Qubit(1), Qubit(2), Qubit(3)];
+    let high = [Qubit(4), Qubit(5), Qubit(6), Qubit(7)];
+    let first = Qubits::from_vec(Vec::from_slice(alloc, &low)?);
+    let second = Qubits::from_vec(Vec::from_slice(alloc, &high)?);
+    assert!(rt; trap.zones().len() == 2);
+    let count = circuit.qubits();
+    assert!(rt; are_below(first.items(), count));
+    assert!(rt; are_below(second.items(), count));
+    let mut lists = Vec::new(alloc);
+    lists.push(first)?;
+    lists.push(second)?;
+    Placement::new(alloc, trap, circuit, lists)
+}
+
+// Whether each action passes its guards after those before it.
+fn passes(alloc: Global, setting: &Setting, actions: &[Action]) -> Result<bool, NoMemory>
+    requires { IsPlacement setting.now.trap setting.now.circuit setting.now.placement }
+    ensures { IfOk result (λ holds. IsTrue holds
+        → AreLegal setting.now (start_of setting.now.trap setting.now.placement) (one_at_a_time actions.now)) }
+{
+    let mut config = Config::start(alloc, setting.trap, setting.placement)?;
+    for action in actions {
+        if let Err(_rule) = enabled(
+            setting.trap,
+            setting.circuit,
+            setting.placement,
+            &config,
+            action,
+        ) {
+            return Ok(false);
+        }
+        config.apply(setting.trap, action);
+    }
+    Ok(true)
+}
+
+// Whether the action performs what has to come before the operation.
+fn comes_before(circuit: &Circuit, action: &Action, op: OpId) -> bool
+    ensures { IsTrue result ↔ Precedes circuit.now op.0 action.now }
+{
+    match action {
+        Action::Op { op: other, .. } => forced(circuit, *other, op),
+        _ => false,
+    }
+}
+
+// Whether no action of these performs what has to come before the operation.
+fn none_before(circuit: &Circuit, op: OpId, rest: &[Action]) -> bool
+    ensures { IsTrue result → All (λ action. Precedes circuit.now op.0 action → ⊥) rest.now }
+{
+    for action in rest {
+        if comes_before(circuit, action, op) {
+            return false;
+        }
+    }
+    true
+}
+
+// Whether what has to come before the operation of that action stands before it.
+fn stands_well(circuit: &Circuit, actions: &[Action], place: usize) -> bool
+    requires { place < length actions.now }
+    ensures { IsTrue result → (i j p : ℕ) → Forced circuit.now i j → IsPerformedAt actions.now i p
+        → IsPerformedAt actions.now j place → p < place }
+{
+    let Action::Op { op, .. } = actions[place] else {
+        return true;
+    };
+    none_before(circuit, op, &actions[place..])
+}
+
+// Whether forced operations stand in order.
+fn in_order(circuit: &Circuit, actions: &[Action]) -> bool
+    ensures { IsTrue result → StandInOrder circuit.now (one_at_a_time actions.now) }
+{
+    for place in 0..actions.len() {
+        if !stands_well(circuit, actions, place) {
+            return false;
+        }
+    }
+    true
+}
+
+fn op(zone: u32, op: u32) -> Action {
+    Action::Op {
+        zone: PlaceId(zone),
+        op: OpId(op),
+    }
+}
+
+fn split(zone: u32, end: End) -> Action {
+    Action::Split {
+        zone: PlaceId(zone),
+        end,
+        count: 1,
+    }
+}
+
+fn merge(zone: u32, end: End) -> Action {
+    Action::Merge {
+        zone: PlaceId(zone),
+        end,
+    }
+}
+
+// Whether the schedule has these steps.
+fn has_steps(schedule: &Schedule, steps: &[&[Action]]) -> bool {
+    if schedule.steps().len() != steps.len() {
+        return false;
+    }
+    for (k, step) in schedule.steps().iter().enumerate() {
+        if step.actions() != steps[k] {
+            return false;
+        }
+    }
+    true
+}
+
+// Tightens the list and compares the steps.
+fn tightens(
+    rt: &impl Abort,
+    alloc: Global,
+    sorts: &[Sort],
+    actions: &[Action],
+    steps: &[&[Action]],
+) -> Result<(), Fail> {
+    let trap = two_zones(alloc)?;
+    let circuit = circuit_of(rt, alloc, sorts)?;
+    let placement = placed(rt, alloc, &trap, &circuit)?;
+    let setting = Setting {
+        trap: &trap,
+        circuit: &circuit,
+        placement: &placement,
+    };
+    let legal = passes(alloc, &setting, actions)?;
+    assert!(rt; legal);
+    let ordered = in_order(&circuit, actions);
+    assert!(rt; ordered);
+    let schedule = tighten(alloc, &setting, actions)?;
+    assert!(rt; has_steps(&schedule, steps), "{schedule:?}");
+    Ok(())
+}
+
+#[test]
+fn no_action(rt: HostRuntime) -> Result<(), Fail> {
+    tightens(&rt, rt.alloc(), &[], &[], &[])
+}
+
+#[test]
+fn one_zone(rt: HostRuntime) -> Result<(), Fail> {
+    let sorts = [Sort::Turn(0), Sort::Turn(1), Sort::Turn(2)];
+    let actions = [op(0, 0), op(0, 1), op(0, 2)];
+    let steps: [&[Action]; 3] = [&[op(0, 0)], &[op(0, 1)], &[op(0, 2)]];
+    tightens(&rt, rt.alloc(), &sorts, &actions, &steps)
+}
+
+#[test]
+fn zones_side_by_side(rt: HostRuntime) -> Result<(), Fail> {
+    let sorts = [Sort::Turn(0), Sort::Turn(4)];
+    let actions = [op(0, 0), op(1, 1)];
+    let steps: [&[Action]; 1] = [&[op(0, 0), op(1, 1)]];
+    tightens(&rt, rt.alloc(), &sorts, &actions, &steps)
+}
+
+#[test]
+fn a_barrier_between_zones(rt: HostRuntime) -> Result<(), Fail> {
+    let sorts = [Sort::Turn(0), Sort::Wall, Sort::Turn(4)];
+    let actions = [op(0, 0), op(1, 2)];
+    let steps: [&[Action]; 2] = [&[op(0, 0)], &[op(1, 2)]];
+    tightens(&rt, rt.alloc(), &sorts, &actions, &steps)
+}
+
+#[test]
+fn a_condition_across_zones(rt: HostRuntime) -> Result<(), Fail> {
+    let sorts = [Sort::Read(0, 3), Sort::Turn(5), Sort::When(4)];
+    let actions = [op(0, 0), op(1, 1), op(1, 2)];
+    let steps: [&[Action]; 2] = [&[op(0, 0), op(1, 1)], &[op(1, 2)]];
+    tightens(&rt, rt.alloc(), &sorts, &actions, &steps)
+}
+
+// What is performed twice comes after itself only by its zone, and what was left out forces nothing.
+#[test]
+fn operations_left_out(rt: HostRuntime) -> Result<(), Fail> {
+    let sorts = [Sort::Turn(0), Sort::Pair(3), Sort::Turn(4)];
+    let actions = [op(0, 0), op(0, 0), op(1, 2)];
+    let steps: [&[Action]; 2] = [&[op(0, 0), op(1, 2)], &[op(0, 0)]];
+    tightens(&rt, rt.alloc(), &sorts, &actions, &steps)
+}
+
+#[test]
+fn eight_qubits_in_fifteen_steps(rt: HostRuntime) -> Result<(), Fail> {
+    let sorts = [
+        Sort::Turn(0),
+        Sort::Pair(0),
+        Sort::Pair(1),
+        Sort::Pair(2),
+        Sort::Pair(3),
+        Sort::Pair(4),
+        Sort::Pair(5),
+        Sort::Pair(6),
+        Sort::WallOverAll,
+        Sort::Read(0, 0),
+        Sort::Read(1, 1),
+        Sort::Read(2, 2),
+        Sort::Read(3, 3),
+        Sort::Read(4, 4),
+        Sort::Read(5, 5),
+        Sort::Read(6, 6),
+        Sort::Read(7, 7),
+    ];
+    let actions = [
+        op(0, 0),
+        op(0, 1),
+        op(0, 2),
+        op(0, 3),
+        split(1, End::A),
+        merge(0, End::B),
+        op(0, 4),
+        split(0, End::B),
+        merge(1, End::A),
+        op(1, 5),
+        op(1, 6),
+        op(1, 7),
+        op(0, 9),
+        op(0, 10),
+        op(0, 11),
+        op(0, 12),
+        op(1, 13),
+        op(1, 14),
+        op(1, 15),
+        op(1, 16),
+    ];
+    let steps: [&[Action]; 15] = [
+        &[op(0, 0), split(1, End::A)],
+        &[op(0, 1)],
+        &[op(0, 2)],
+        &[op(0, 3)],
+        &[merge(0, End::B)],
+        &[op(0, 4)],
+        &[split(0, End::B)],
+        &[merge(1, End::A)],
+        &[op(1, 5)],
+        &[op(1, 6)],
+        &[op(1, 7)],
+        &[op(0, 9), op(1, 13)],
+        &[op(0, 10), op(1, 14)],
+        &[op(0, 11), op(1, 15)],
+        &[op(0, 12), op(1, 16)],
+    ];
+    tightens(&rt, rt.alloc(), &sorts, &actions, &steps)
+}
