@@ -16,7 +16,7 @@ use Rattle.request_words.specs.Request.{compile, request_of}
 use Rattle.run_answers.specs.declared.answer.Answer.TheVariants as answers
 use Rattle.qccd.specs.Work.{Work, Ends, IsTightTextOf}
 use Rattle.qccd.specs.Found.{Found}
-use Rattle.qccd.specs.Run.{Writes}
+use Rattle.qccd.specs.Run.{Devices, Writes}
 use Rattle.qccd.specs.Headline.{line_with_ions, Compiled}
 use Rattle.qccd.proofs.Went.{asked_for, planned_by}
 
@@ -24,11 +24,12 @@ named : (trap : TrapValue) (circuit : CircuitValue) (placement : List (List Qubi
     → action_line (setting_of trap circuit placement) (actions.Op zone number) ≡ line_with_ions trap circuit placement zone number op
 named trap circuit placement zone number op e = rw e refl
 
-pub compiled : (found : Found) (words : List (List ℕ)) (circuit trap : List ℕ) (rule : PlaceRule) (before now : Option (List ℕ)) → request_of words ≡ Some (compile circuit trap rule None)
-    → Writes found words answers.Ok before now → Compiled found rule before now
+pub compiled : (found : Found) (words : List (List ℕ)) (circuit trap : List ℕ) (rule : PlaceRule) (before now : Devices) → request_of words ≡ Some (compile circuit trap rule None)
+    → Writes found words answers.Ok before now → Compiled found rule before.out.taken now.out.taken
 compiled found words circuit trap rule before now request writes =
     let plan = planned_by found circuit trap rule writes.done.work (asked_for found words (compile circuit trap rule None) writes.done.work request writes.done.is) in
-    let ends : IsTightTextOf (setting_of plan.trap plan.circuit plan.placement) writes.text = subst (λ (w : Work). Ends w answers.Ok writes.text) plan.work_is writes.done.ends in
+    let ends : IsTightTextOf (setting_of plan.trap plan.circuit plan.placement) writes.ending.text =
+    (subst (λ (w : Work). Ends w answers.Ok writes.ending) plan.work_is writes.done.ends).schedule in
     record {
       circuit = plan.circuit;
       circuit_is = plan.circuit_is;
@@ -40,5 +41,5 @@ compiled found words circuit trap rule before now request writes =
       schedule = ends.is.schedule;
       plays = ends.is.plays;
       named = named plan.trap plan.circuit plan.placement;
-      taken = subst (λ (text : List ℕ). Took before now text) ends.is.text_is writes.taken;
+      taken = subst (λ (text : List ℕ). Took before.out.taken now.out.taken text) ends.is.text_is writes.whole.taken;
     }

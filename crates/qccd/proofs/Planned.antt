@@ -16,7 +16,8 @@ use Rattle.placement.specs.Faults.{Answers}
 use Rattle.run_answers.specs.declared.answer.Answer.{Answer}
 use Rattle.run_answers.specs.declared.answer.Answer.TheVariants as answers
 use Rattle.qccd.specs.declared.inputs.Inputs.{Inputs}
-use Rattle.qccd.specs.Work.{make, IsTightTextOf}
+use Rattle.qccd.specs.declared.ending.Ending.{Ending}
+use Rattle.qccd.specs.Work.{make, IsTightTextOf, IsScheduleWritten, written}
 use Rattle.qccd.specs.Stages.{Is}
 use Rattle.qccd.specs.Prepare.{serves, routed, from_placement, planned}
 use Rattle.qccd.specs.Serial.{one_by_one}
@@ -37,11 +38,12 @@ tight_text trap circuit placement schedule text shown serves right placed serial
 
 -- ---- a trap that is built
 
-pub routed_ok : (setting : SettingValue) (text : List ℕ) → serves setting.trap.zones (qubit_count setting.circuit) ≡ true → IsTightTextOf setting text → Finishes (Is (routed setting)) (Ok text)
-routed_ok setting text serves is = record {
+pub routed_ok : (setting : SettingValue) (text : List ℕ) (ending : Ending) → serves setting.trap.zones (qubit_count setting.circuit) ≡ true → IsTightTextOf setting text → ending ≡ written text
+    → Finishes (Is (routed setting)) (Ok ending)
+routed_ok setting text ending serves is made = record {
   work = make setting;
   is = sym (ap (λ (b : Bool). if b then Ok (make setting) else Err answers.Unbuilt) serves);
-  ends = is;
+  ends = subst (IsScheduleWritten setting) (sym made) (record { schedule = is; none = refl });
 }
 
 pub routed_err : (setting : SettingValue) → serves setting.trap.zones (qubit_count setting.circuit) ≡ false → Finishes (Is (routed setting)) (Err answers.Unbuilt)
@@ -49,10 +51,10 @@ routed_err setting other = inr (sym (ap (λ (b : Bool). if b then Ok (make setti
 
 -- ---- the placement of a rule
 
-abbrev PlacedFrom : Inputs → Result (List (List Qubit)) PlaceFault → Result (List ℕ) Answer → Type 0
+abbrev PlacedFrom : Inputs → Result (List (List Qubit)) PlaceFault → Result Ending Answer → Type 0
 PlacedFrom inputs placed r = Finishes (Is (from_placement inputs placed)) r
 
-pub planned_ok : (rule : PlaceRule) (inputs : Inputs) (placement : List (List Qubit)) (r : Result (List ℕ) Answer) → place_by inputs.trap inputs.circuit rule inputs.labels ≡ Ok placement
+pub planned_ok : (rule : PlaceRule) (inputs : Inputs) (placement : List (List Qubit)) (r : Result Ending Answer) → place_by inputs.trap inputs.circuit rule inputs.labels ≡ Ok placement
     → Finishes (Is (routed (setting_of inputs.trap inputs.circuit placement))) r → Finishes (Is (planned rule inputs)) r
 planned_ok rule inputs placement r said done = subst (λ (placed : Result (List (List Qubit)) PlaceFault). PlacedFrom inputs placed r) (sym said) done
 

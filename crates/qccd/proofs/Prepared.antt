@@ -1,41 +1,45 @@
 -- What the commands come to before anything is written.
 use Rattle.std.proofs.Common.{◌≡◌, ◌≢◌, List, ℕ, Option, Some, None, Result, Ok, Err, refl, sym, ap, ◌∙◌, subst, inl, inr}
-use Rattle.std.specs.Option.{option_and_then, option_map, ok_or}
-use Rattle.qc_base.specs.Shelf.{ShelfFacts, OnlyReads}
+use Rattle.std.specs.Option.{option_and_then, option_map, option_map_or, ok_or}
+use Rattle.qc_base.specs.Shelf.{ShelfFacts, OnlyReads, SameCounts}
+use Rattle.step_rules.specs.declared.action.Action.{Action}
+use Rattle.step_rules.specs.Setting.{SettingValue}
 use Rattle.placement.specs.declared.fault.PlaceFault.{PlaceFault}
 use Rattle.placement.specs.declared.rule.PlaceRule.{PlaceRule}
 use Rattle.request_words.specs.declared.file.File.{File}
 use Rattle.request_words.specs.declared.file.File.TheVariants as files
-use Rattle.request_words.specs.Request.{Asked, compile, check, request_of, file_of}
+use Rattle.request_words.specs.Request.{Asked, compile, request_of, named, file_of, put_of}
 use Rattle.run_answers.specs.declared.answer.Answer.{Answer}
 use Rattle.run_answers.specs.declared.answer.Answer.TheVariants as answers
 use Rattle.qccd.specs.declared.inputs.Inputs.{Inputs}
 use Rattle.qccd.specs.declared.command.Refusal.{Refusal}
+use Rattle.qccd.specs.declared.ending.Ending.{Ending}
 use Rattle.qccd.specs.Work.{Work}
 use Rattle.qccd.specs.Stages.{Is, Then}
-use Rattle.qccd.specs.Found.{Found, name_in, IsFoundUnder, IsFound}
-use Rattle.qccd.specs.Prepare.{InputsOf, planned, JudgedOf, Comes, Prepares}
+use Rattle.qccd.specs.Found.{Found, name_in, put_name, IsFoundUnder, IsFound}
+use Rattle.qccd.specs.Prepare.{InputsOf, planned, JudgedOf, JudgedFor, Comes, Prepares, refused_request, refused_words}
 use Rattle.qccd.specs.Loading.{LoadsBoth, CountsAll, Finishes}
 use Rattle.run_answers.specs.Answer.{fault_line}
-use Rattle.qccd.specs.Run.{HasNames, SinkFacts, Tells}
-use Rattle.qccd.specs.Preparing.{HasInputs, answer_in, Judging, Prepared, names_of}
+use Rattle.qccd.specs.Run.{HasNames, SinkFacts, Tells, Devices}
+use Rattle.qccd.specs.Preparing.{HasName, HasInputs, answer_in, Judging, Prepared, IsFinished, names_of}
 use Rattle.qccd.proofs.Stages.{reached_value, finishes_ok, finishes_err, then_ok, then_err}
-use Rattle.qccd.proofs.Reading.{found_before, found_after, not_read}
+use Rattle.qccd.proofs.Reading.{found_before, found_after, not_read, no_fault}
+use Rattle.qccd.proofs.Settled.{CameToWork}
 
 -- ---- a refusal and what was read by then
 
-same_refusal : (a b : Refusal) → ◌≡◌ {A = Result (List ℕ) Refusal} (Err a) (Err b) → a ≡ b
+same_refusal : (a b : Refusal) → ◌≡◌ {A = Result Ending Refusal} (Err a) (Err b) → a ≡ b
 same_refusal a b e = cc
 
-no_refusal : (text : List ℕ) (refusal : Refusal) → ◌≢◌ {A = Result (List ℕ) Refusal} (Ok text) (Err refusal)
-no_refusal text refusal e = cc
+no_refusal : (ending : Ending) (refusal : Refusal) → ◌≢◌ {A = Result Ending Refusal} (Ok ending) (Err refusal)
+no_refusal ending refusal e = cc
 
 -- a refusal of a placement comes with what the files describe
-abbrev pub Names : Found → Result (List ℕ) Refusal → Type 0
+abbrev pub Names : Found → Result Ending Refusal → Type 0
 Names found result = (refusal : Refusal) (fault : PlaceFault) → result ≡ Err refusal → refusal.answer ≡ answers.Place fault → HasInputs found refusal
 
-names_ok : (found : Found) (text : List ℕ) → Names found (Ok text)
-names_ok found text refusal fault e place = absurd (no_refusal text refusal e)
+names_ok : (found : Found) (ending : Ending) → Names found (Ok ending)
+names_ok found ending refusal fault e place = absurd (no_refusal ending refusal e)
 
 names_late : (found : Found) (answer : Answer) (inputs : Inputs) → InputsOf found.circuit found.trap (Ok inputs) → Names found (Err (record { answer = answer; inputs = Some inputs }))
 names_late found answer inputs are refusal fault e place = record {
@@ -53,16 +57,16 @@ names_early found answer other refusal fault e place =
 abbrev asked_plan : List ℕ → List ℕ → PlaceRule → Asked
 asked_plan circuit trap rule = compile circuit trap rule None
 
-abbrev pub PlanPrepared : ShelfFacts → ShelfFacts → List ℕ → List ℕ → PlaceRule → Result (List ℕ) Refusal → Type 0
+abbrev pub PlanPrepared : ShelfFacts → ShelfFacts → List ℕ → List ℕ → PlaceRule → Result Ending Refusal → Type 0
 PlanPrepared before now circuit trap rule result = Prepared (file_of (asked_plan circuit trap rule)) (λ found. Comes found (asked_plan circuit trap rule)) before now result
 
-pub plan_ok : (before now : ShelfFacts) (circuit trap : List ℕ) (rule : PlaceRule) (inputs : Inputs) (text : List ℕ) → LoadsBoth before now circuit trap (Ok inputs)
-    → Finishes (Is (planned rule inputs)) (Ok text) → PlanPrepared before now circuit trap rule (Ok text)
-plan_ok before now circuit trap rule inputs text loads done = record {
+pub plan_ok : (before now : ShelfFacts) (circuit trap : List ℕ) (rule : PlaceRule) (inputs : Inputs) (ending : Ending) → LoadsBoth before now circuit trap (Ok inputs)
+    → Finishes (Is (planned rule inputs)) (Ok ending) → PlanPrepared before now circuit trap rule (Ok ending)
+plan_ok before now circuit trap rule inputs ending loads done = record {
   found = record { circuit = loads.circuit_file; trap = loads.trap_file; schedule = None };
   is_found = record { circuit = loads.circuit_found; trap = loads.trap_found; schedule = refl };
-  finishes = finishes_ok (InputsOf loads.circuit_file loads.trap_file) (λ inputs. Is (planned rule inputs)) inputs (Ok text) loads.reached done;
-  named = names_ok (record { circuit = loads.circuit_file; trap = loads.trap_file; schedule = None }) text;
+  finishes = finishes_ok (InputsOf loads.circuit_file loads.trap_file) (λ inputs. Is (planned rule inputs)) inputs (Ok ending) loads.reached done;
+  named = names_ok (record { circuit = loads.circuit_file; trap = loads.trap_file; schedule = None }) ending;
 }
 
 pub plan_late : (before now : ShelfFacts) (circuit trap : List ℕ) (rule : PlaceRule) (inputs : Inputs) (answer : Answer) → LoadsBoth before now circuit trap (Ok inputs)
@@ -85,27 +89,27 @@ plan_early before now circuit trap rule answer loads other = record {
   named = names_early (record { circuit = loads.circuit_file; trap = loads.trap_file; schedule = None }) answer other;
 }
 
--- ---- a check
+-- ---- a check or a report
 
-abbrev pub CheckPrepared : ShelfFacts → ShelfFacts → List ℕ → List ℕ → List ℕ → Result (List ℕ) Refusal → Type 0
-CheckPrepared before now circuit trap schedule result = Prepared (file_of (check circuit trap schedule)) (λ found. Comes found (check circuit trap schedule)) before now result
+abbrev pub CheckPrepared : (SettingValue → List (List Action) → Work) → ShelfFacts → ShelfFacts → List ℕ → List ℕ → List ℕ → Result Ending Refusal → Type 0
+CheckPrepared work before now circuit trap schedule result = Prepared (named circuit trap (Some schedule)) (JudgedFor work) before now result
 
-pub check_ok : (before middle now : ShelfFacts) (circuit trap schedule : List ℕ) (inputs : Inputs) (text : List ℕ) → OnlyReads before middle → OnlyReads middle now → LoadsBoth before middle circuit trap (Ok inputs)
-    → Judging middle now schedule inputs (Ok text) → CheckPrepared before now circuit trap schedule (Ok text)
-check_ok before middle now circuit trap schedule inputs text first second loads judging = record {
+pub check_ok : (work : SettingValue → List (List Action) → Work) (before middle now : ShelfFacts) (circuit trap schedule : List ℕ) (inputs : Inputs) (ending : Ending) → OnlyReads before middle → OnlyReads middle now
+    → LoadsBoth before middle circuit trap (Ok inputs) → Judging work middle now schedule inputs (Ok ending) → CheckPrepared work before now circuit trap schedule (Ok ending)
+check_ok work before middle now circuit trap schedule inputs ending first second loads judging = record {
   found = record { circuit = loads.circuit_file; trap = loads.trap_file; schedule = judging.content };
   is_found = record {
     circuit = found_before before middle now circuit loads.circuit_file second loads.circuit_found;
     trap = found_before before middle now trap loads.trap_file second loads.trap_found;
     schedule = found_after before middle now schedule judging.content first judging.is_found;
   };
-  finishes = finishes_ok (InputsOf loads.circuit_file loads.trap_file) (JudgedOf judging.content) inputs (Ok text) loads.reached judging.finishes;
-  named = names_ok (record { circuit = loads.circuit_file; trap = loads.trap_file; schedule = judging.content }) text;
+  finishes = finishes_ok (InputsOf loads.circuit_file loads.trap_file) (JudgedOf work judging.content) inputs (Ok ending) loads.reached judging.finishes;
+  named = names_ok (record { circuit = loads.circuit_file; trap = loads.trap_file; schedule = judging.content }) ending;
 }
 
-pub check_late : (before middle now : ShelfFacts) (circuit trap schedule : List ℕ) (inputs : Inputs) (answer : Answer) → OnlyReads before middle → OnlyReads middle now → LoadsBoth before middle circuit trap (Ok inputs)
-    → Judging middle now schedule inputs (Err answer) → CheckPrepared before now circuit trap schedule (Err (record { answer = answer; inputs = Some inputs }))
-check_late before middle now circuit trap schedule inputs answer first second loads judging =
+pub check_late : (work : SettingValue → List (List Action) → Work) (before middle now : ShelfFacts) (circuit trap schedule : List ℕ) (inputs : Inputs) (answer : Answer) → OnlyReads before middle → OnlyReads middle now
+    → LoadsBoth before middle circuit trap (Ok inputs) → Judging work middle now schedule inputs (Err answer) → CheckPrepared work before now circuit trap schedule (Err (record { answer = answer; inputs = Some inputs }))
+check_late work before middle now circuit trap schedule inputs answer first second loads judging =
     let found : Found = record { circuit = loads.circuit_file; trap = loads.trap_file; schedule = judging.content } in
     record {
       found = found;
@@ -114,16 +118,16 @@ check_late before middle now circuit trap schedule inputs answer first second lo
         trap = found_before before middle now trap loads.trap_file second loads.trap_found;
         schedule = found_after before middle now schedule judging.content first judging.is_found;
       };
-      finishes = finishes_ok (InputsOf loads.circuit_file loads.trap_file) (JudgedOf judging.content) inputs (Err answer) loads.reached judging.finishes;
+      finishes = finishes_ok (InputsOf loads.circuit_file loads.trap_file) (JudgedOf work judging.content) inputs (Err answer) loads.reached judging.finishes;
       named = names_late found answer inputs (reached_value (InputsOf loads.circuit_file loads.trap_file) inputs loads.reached);
     }
 
-pub check_early : (before now : ShelfFacts) (circuit trap schedule : List ℕ) (answer : Answer) → LoadsBoth before now circuit trap (Err answer) → ((fault : PlaceFault) → answer ≢ answers.Place fault)
-    → CheckPrepared before now circuit trap schedule (Err (record { answer = answer; inputs = None }))
-check_early before now circuit trap schedule answer loads other = record {
+pub check_early : (work : SettingValue → List (List Action) → Work) (before now : ShelfFacts) (circuit trap schedule : List ℕ) (answer : Answer) → LoadsBoth before now circuit trap (Err answer) → ((fault : PlaceFault) → answer ≢ answers.Place fault)
+    → CheckPrepared work before now circuit trap schedule (Err (record { answer = answer; inputs = None }))
+check_early work before now circuit trap schedule answer loads other = record {
   found = record { circuit = loads.circuit_file; trap = loads.trap_file; schedule = before.contents schedule };
   is_found = record { circuit = loads.circuit_found; trap = loads.trap_found; schedule = not_read before now schedule };
-  finishes = finishes_err (InputsOf loads.circuit_file loads.trap_file) (JudgedOf (before.contents schedule)) answer loads.reached;
+  finishes = finishes_err (InputsOf loads.circuit_file loads.trap_file) (JudgedOf work (before.contents schedule)) answer loads.reached;
   named = names_early (record { circuit = loads.circuit_file; trap = loads.trap_file; schedule = before.contents schedule }) answer other;
 }
 
@@ -136,12 +140,12 @@ Asks asked found = Then (Is (ok_or asked answers.Usage)) (Comes found)
 abbrev names_for : Option Asked → File → Option (List ℕ)
 names_for asked file = option_and_then (λ a. file_of a file) asked
 
-asked_done : (found : Found) (asked : Asked) (r : Result (List ℕ) Answer) → Finishes (Comes found asked) r → Finishes (Asks (Some asked) found) r
-asked_done found asked (Ok text) done = record { work = done.work; is = then_ok (Is (Ok asked)) (Comes found) asked (Ok done.work) refl done.is; ends = done.ends }
+asked_done : (found : Found) (asked : Asked) (r : Result Ending Answer) → Finishes (Comes found asked) r → Finishes (Asks (Some asked) found) r
+asked_done found asked (Ok ending) done = record { work = done.work; is = then_ok (Is (Ok asked)) (Comes found) asked (Ok done.work) refl done.is; ends = done.ends }
 asked_done found asked (Err answer) (inl none) = inl none
 asked_done found asked (Err answer) (inr is) = inr (then_ok (Is (Ok asked)) (Comes found) asked (Err answer) refl is)
 
-pub prepared_by : (before now : ShelfFacts) (words : List (List ℕ)) (asked : Asked) (result : Result (List ℕ) Refusal) → request_of words ≡ Some asked
+pub prepared_by : (before now : ShelfFacts) (words : List (List ℕ)) (asked : Asked) (result : Result Ending Refusal) → request_of words ≡ Some asked
     → Prepared (file_of asked) (λ found. Comes found asked) before now result → Prepared (name_in words) (λ found. Prepares found words) before now result
 prepared_by before now words asked result request p =
     subst (λ (o : Option Asked). Prepared (names_for o) (Asks o) before now result) (sym request)
@@ -178,8 +182,25 @@ refused_by_words before now words answer other refused = record {
   named = names_early (shelf_found before (name_in words)) answer other;
 }
 
+same_some : (a b : Answer) → ◌≡◌ {A = Option Answer} (Some a) (Some b) → a ≡ b
+same_some a b e = cc
+
 pub no_request : (found : Found) (words : List (List ℕ)) → request_of words ≡ None → Prepares found words (Err answers.Usage)
 no_request found words none = subst (λ (o : Option Asked). Asks o found (Err answers.Usage)) (sym none) (then_err (Is (Err answers.Usage)) (Comes found) answers.Usage refl)
+
+-- words that are refused by themselves
+pub refused_none : (words : List (List ℕ)) (answer : Answer) → request_of words ≡ None → refused_words words ≡ Some answer → answers.Usage ≡ answer
+refused_none words answer none refused = same_some answers.Usage answer (sym (ap (λ (o : Option Asked). option_map_or refused_request o (Some answers.Usage)) none) ∙ refused)
+
+pub refused_some : (words : List (List ℕ)) (asked : Asked) (answer : Answer) → request_of words ≡ Some asked → refused_words words ≡ Some answer → refused_request asked ≡ Some answer
+refused_some words asked answer some refused = sym (ap (λ (o : Option Asked). option_map_or refused_request o (Some answers.Usage)) some) ∙ refused
+
+-- a request that puts nothing
+pub no_name : (name put : Option (List ℕ)) → put ≡ None → HasName name put
+no_name name put none = subst (HasName name) (sym none) tt
+
+pub name_of_request : (words : List (List ℕ)) (asked : Asked) (put : Option (List ℕ)) → request_of words ≡ Some asked → HasName (put_of asked) put → HasName (put_name words) put
+name_of_request words asked put some has = subst (λ (o : Option Asked). HasName (option_and_then put_of o) put) (sym some) has
 
 pub usage_places_nothing : (fault : PlaceFault) → answers.Usage ≢ answers.Place fault
 usage_places_nothing fault e = cc
@@ -188,7 +209,7 @@ unbuilt_places_nothing : (fault : PlaceFault) → answers.Unbuilt ≢ answers.Pl
 unbuilt_places_nothing fault e = cc
 
 -- a request that isn't built
-pub unbuilt : (before now : ShelfFacts) (asked : Asked) (result : Result (List ℕ) Refusal) → result ≡ Err (record { answer = answers.Unbuilt; inputs = None }) → ((found : Found) → Comes found asked (Err answers.Unbuilt))
+pub unbuilt : (before now : ShelfFacts) (asked : Asked) (result : Result Ending Refusal) → result ≡ Err (record { answer = answers.Unbuilt; inputs = None }) → ((found : Found) → Comes found asked (Err answers.Unbuilt))
     → Prepared (file_of asked) (λ found. Comes found asked) before now result
 unbuilt before now asked result same is =
     let found = shelf_found before (file_of asked) in
@@ -213,3 +234,21 @@ has_names found refusal named fault place =
 -- the line with the names of what was handed over
 pub told_with : (before now : SinkFacts) (answer : Answer) (a b : Option Inputs) → a ≡ b → Tells before now (fault_line (names_of a) answer) → Tells before now (fault_line (names_of b) answer)
 told_with before now answer a b same told = subst (λ (i : Option Inputs). Tells before now (fault_line (names_of i) answer)) same told
+
+-- ---- work that was put and written
+
+abbrev same_counts_ok : (names : File → Option (List ℕ)) (before now : ShelfFacts) (ending : Ending) → CountsAll names before now (answer_in (Ok ending)) → SameCounts before now
+same_counts_ok names before now ending counts = counts.stays (λ which. no_fault ending which)
+
+pub came_to_work : (words : List (List ℕ)) (before middle now : Devices) (ending : Ending) (answer : Answer) (name : Option (List ℕ))
+    → Prepared (name_in words) (λ found. Prepares found words) before.shelf middle.shelf (Ok ending) → OnlyReads before.shelf middle.shelf → CountsAll (name_in words) before.shelf middle.shelf (answer_in (Ok ending))
+    → middle.out ≡ before.out → name ≡ put_name words → IsFinished name ending middle now answer → CameToWork words before middle now ending answer
+came_to_work words before middle now ending answer name prepared reads counts out named finished = record {
+  found = prepared.found;
+  is_found = prepared.is_found;
+  done = prepared.finishes;
+  reads = reads;
+  counts = same_counts_ok (name_in words) before.shelf middle.shelf ending counts;
+  out = out;
+  finished = subst (λ (n : Option (List ℕ)). IsFinished n ending middle now answer) named finished;
+}

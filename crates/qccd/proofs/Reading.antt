@@ -3,7 +3,7 @@ use Rattle.std.proofs.Common.{◌≡◌, ◌≢◌, List, ℕ, ◌≤◌, Option
 use Rattle.std.specs.Prelude.{IsTrue, Bool, false, nat_le, ◌<◌, length, if◌then◌else◌}
 use Rattle.std.proofs.lemmas.Bool.{cases_Bool, leb-true, le-leb}
 use Rattle.qc_base.specs.Causes.{Rose}
-use Rattle.qc_base.specs.Shelf.{ShelfFacts, OnlyReads}
+use Rattle.qc_base.specs.Shelf.{ShelfFacts, SameCounts, OnlyReads}
 use Rattle.circuit_core.specs.Circuit.{CircuitValue}
 use Rattle.trap_model.specs.Trap.{TrapValue}
 use Rattle.placement.specs.Placing.{Table}
@@ -142,7 +142,10 @@ both_circuit_err before now circuit_name trap_name answer one = record {
   reached = reached_err (CircuitOf one.content) (Pair (before.contents trap_name)) answer one.reached;
 }
 
--- ---- the counts of reads
+-- ---- the counts
+
+pub same_counts : (before middle now : ShelfFacts) → SameCounts before middle → SameCounts middle now → SameCounts before now
+same_counts before middle now first second = record { reads = second.reads ∙ first.reads; puts = second.puts ∙ first.puts }
 
 -- no answer was given that a file could not be read
 pub no_fault : {X : Type 0} (x : X) (file : File) → ◌≢◌ {A = Result X Answer} (Ok x) (Err (answers.ReadFault file))
@@ -165,20 +168,20 @@ counts_as {X} {Y} names file name before now answer named counts = record {
 }
 
 -- after a read that succeeded
-pub counts_after : {X Y : Type 0} (names : File → Option (List ℕ)) (before middle now : ShelfFacts) (answer : Answer) → middle.read_faults ≡ before.read_faults
+pub counts_after : {X Y : Type 0} (names : File → Option (List ℕ)) (before middle now : ShelfFacts) (answer : Answer) → SameCounts before middle
     → CountsAll {X = X} names middle now (Err answer) → CountsAll {X = Y} names before now (Err answer)
 counts_after {X} {Y} names before middle now answer same counts = record {
   failed = λ which e.
       let one = counts.failed which (read_fault {X = Y} {Y = X} answer which e) in
-      record { name = one.name; named = one.named; rose = subst (λ (faults : List ℕ → ℕ). Rose (faults one.name) (now.read_faults one.name)) same one.rose };
-  stays = λ none. counts.stays (λ which e. none which (read_fault {X = X} {Y = Y} answer which e)) ∙ same;
+      record { name = one.name; named = one.named; rose = subst (λ (faults : List ℕ → ℕ). Rose (faults one.name) (now.read_faults one.name)) same.reads one.rose };
+  stays = λ none. same_counts before middle now same (counts.stays (λ which e. none which (read_fault {X = X} {Y = Y} answer which e)));
 }
 
-pub counts_ok : {X : Type 0} (names : File → Option (List ℕ)) (before now : ShelfFacts) (x : X) → now.read_faults ≡ before.read_faults → CountsAll {X = X} names before now (Ok x)
+pub counts_ok : {X : Type 0} (names : File → Option (List ℕ)) (before now : ShelfFacts) (x : X) → SameCounts before now → CountsAll {X = X} names before now (Ok x)
 counts_ok names before now x same = record { failed = λ which e. absurd (no_fault x which e); stays = λ none. same }
 
 -- an answer of another kind
-pub counts_other : {X : Type 0} (names : File → Option (List ℕ)) (before now : ShelfFacts) (answer : Answer) → ((file : File) → answer ≢ answers.ReadFault file) → now.read_faults ≡ before.read_faults
+pub counts_other : {X : Type 0} (names : File → Option (List ℕ)) (before now : ShelfFacts) (answer : Answer) → ((file : File) → answer ≢ answers.ReadFault file) → SameCounts before now
     → CountsAll {X = X} names before now (Err answer)
 counts_other {X} names before now answer other same = record { failed = λ which e. absurd (other which (same_err {X = X} answer (answers.ReadFault which) e)); stays = λ none. same }
 

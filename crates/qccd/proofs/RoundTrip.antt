@@ -83,7 +83,7 @@ trap_right content file is =
 
 judged_text : (inputs : Inputs) (placement : List (List Qubit)) (steps : List (List Action)) (text : List ℕ) (content : Option (List ℕ)) → IsTrap inputs.trap → IsCircuit inputs.circuit
     → Spells inputs.trap inputs.circuit placement steps text → Plays (setting_of inputs.trap inputs.circuit placement) steps → content ≡ Some text → length text ≤ 2 ^ 30
-    → JudgedOf content inputs (Ok (judged (setting_of inputs.trap inputs.circuit placement) steps))
+    → JudgedOf judged content inputs (Ok (judged (setting_of inputs.trap inputs.circuit placement) steps))
 judged_text inputs placement steps text content t c spells plays there few =
     let checked : Checked = record { placement = placement; schedule = steps } in
     record {
@@ -101,11 +101,11 @@ judged_text inputs placement steps text content t c spells plays there few =
 
 -- the stages of a check, where circuit and trap are found as before
 checked_by : (found : Found) (words : List (List ℕ)) (circuit trap schedule : List ℕ) (inputs : Inputs) (work : Work) → request_of words ≡ Some (check circuit trap schedule)
-    → InputsOf found.circuit found.trap (Ok inputs) → JudgedOf found.schedule inputs (Ok work) → Prepares found words (Ok work)
+    → InputsOf found.circuit found.trap (Ok inputs) → JudgedOf judged found.schedule inputs (Ok work) → Prepares found words (Ok work)
 checked_by found words circuit trap schedule inputs work request is judges =
     subst (λ (o : Option Asked). Then (Is (ok_or o answers.Usage)) (Comes found) (Ok work)) (sym request)
     (then_ok (Is (Ok (check circuit trap schedule))) (Comes found) (check circuit trap schedule) (Ok work) refl
-    (then_ok (InputsOf found.circuit found.trap) (JudgedOf found.schedule) inputs (Ok work) is judges))
+    (then_ok (InputsOf found.circuit found.trap) (JudgedOf judged found.schedule) inputs (Ok work) is judges))
 
 same_setting : (a b : SettingValue) → make a ≡ make b → a ≡ b
 same_setting a b e = cc

@@ -1,37 +1,48 @@
 -- The answer is what the words and the files come to.
-use Rattle.std.proofs.Common.{◌≡◌, ◌≢◌, List, ℕ, Option, Some, None, Result, Ok, Err, refl, sym, ap, ◌∙◌, subst, inl, inr, ◌⊎◌}
+use Rattle.std.proofs.Common.{◌≡◌, ◌≢◌, List, ℕ, Option, Some, None, Result, Ok, Err, refl, sym, ap, ◌∙◌, subst, inl, inr, ◌⊎◌, ◌≤◌, arith}
+use Rattle.std.proofs.Math.Nat.{le_trans}
 use Rattle.std.specs.Prelude.{IsTrue}
 use Rattle.std.specs.Option.{option_and_then, ok_or}
 use Rattle.qc_base.specs.Causes.{Rose}
-use Rattle.qc_base.specs.Shelf.{ShelfFacts}
+use Rattle.qc_base.specs.Shelf.{Contents, ShelfFacts, SameCounts, OnlyReads}
 use Rattle.qc_base.specs.Sink.{Took, TookPart}
 use Rattle.request_words.specs.declared.file.File.{File}
 use Rattle.request_words.specs.declared.file.File.TheVariants as files
 use Rattle.request_words.specs.Request.{Asked, compile, check, verify, report, load, request_of}
+use Rattle.placement.specs.declared.fault.PlaceFault.{PlaceFault}
+use Rattle.run_answers.specs.Answer.{fault_line}
 use Rattle.run_answers.specs.declared.answer.Answer.{Answer}
 use Rattle.run_answers.specs.declared.answer.Answer.TheVariants as answers
 use Rattle.schedule_play.proofs.Verdicts as verdicts
 use Rattle.verify_core.proofs.Judging.{judged_once}
-use Rattle.qccd.specs.Work.{Work}
+use Rattle.step_rules.specs.declared.action.Action.{Action}
+use Rattle.step_rules.specs.Setting.{SettingValue}
+use Rattle.qccd.specs.Work.{Work, judged, reported}
 use Rattle.qccd.specs.Stages.{Is}
-use Rattle.qccd.specs.Found.{Found, name_in, held, IsFoundUnder, IsFound, FailsToRead}
-use Rattle.qccd.specs.Prepare.{bytes_of, planned, Comes, Prepares}
-use Rattle.qccd.specs.Run.{IsDone, Concludes, answer_to}
+use Rattle.qccd.specs.Found.{Found, name_in, put_name, held, IsFoundUnder, IsFound, FailsToRead, FailsToPut}
+use Rattle.qccd.specs.Prepare.{bytes_of, planned, JudgedFor, Comes, Prepares}
+use Rattle.qccd.specs.declared.ending.Ending.{Ending}
+use Rattle.qccd.specs.Run.{SinkFacts, Devices, Holds, KeepsFiles, IsWhole, FailedToPut, FailedToWrite, IsQuiet, IsDone, Concludes, KeepsCounts, NoneFailed, Tells, Runs, answer_to}
+use Rattle.qccd.specs.Preparing.{IsFinished, names_of}
 use Rattle.qccd.specs.Loading.{IsRefusal, IsDoneBy, Finishes}
 use Rattle.qccd.proofs.Stages.{IsOne, then-one, as-one, inputs_of-one}
+use Rattle.qccd.proofs.Reading.{same_counts}
 
 -- ---- words and files come to one outcome
 
 fixed-one : {X : Type 0} (value : Result X Answer) → IsOne (Is value)
 fixed-one value a b p q = p ∙ sym q
 
+judged-one : (work : SettingValue → List (List Action) → Work) (found : Found) → IsOne (JudgedFor work found)
+judged-one work found = then-one _ _ (inputs_of-one found.circuit found.trap)
+    (λ inputs. then-one _ _ (fixed-one (bytes_of files.Schedule found.schedule)) (λ bytes. as-one _ _ (judged_once verdicts.one_verdict verdicts.not_both inputs.trap inputs.circuit bytes)))
+
 comes-one : (found : Found) (asked : Asked) → IsOne (Comes found asked)
 comes-one found (compile circuit trap rule None) = then-one _ _ (inputs_of-one found.circuit found.trap) (λ inputs. fixed-one (planned rule inputs))
 comes-one found (compile circuit trap rule (Some exact)) = fixed-one (Err answers.Unbuilt)
-comes-one found (check circuit trap schedule) = then-one _ _ (inputs_of-one found.circuit found.trap)
-    (λ inputs. then-one _ _ (fixed-one (bytes_of files.Schedule found.schedule)) (λ bytes. as-one _ _ (judged_once verdicts.one_verdict verdicts.not_both inputs.trap inputs.circuit bytes)))
+comes-one found (check circuit trap schedule) = judged-one judged found
 comes-one found (verify circuit trap schedule cert) = fixed-one (Err answers.Unbuilt)
-comes-one found (report circuit trap schedule) = fixed-one (Err answers.Unbuilt)
+comes-one found (report circuit trap schedule) = judged-one reported found
 comes-one found (load seed schedule) = fixed-one (Err answers.Unbuilt)
 
 pub prepares-one : (found : Found) (words : List (List ℕ)) → IsOne (Prepares found words)
@@ -71,19 +82,56 @@ unless_memory : (found : Found) (words : List (List ℕ)) (answer : Answer) → 
 unless_memory found words answer (inl e) memory = absurd (memory e)
 unless_memory found words answer (inr is) memory = is
 
+-- ---- devices that failed
+
+rose_before : (a b c : ℕ) → a ≤ b → Rose b c → Rose a c
+rose_before a b c more rose = omega (arith, rose, more)
+
+rose_after : (a b c : ℕ) → Rose a b → b ≤ c → Rose a c
+rose_after a b c rose more = omega (arith, rose, more)
+
+fails_later : (words : List (List ℕ)) (file : File) (before middle now : ShelfFacts) → KeepsFiles (put_name words) middle now
+    → FailsToRead (name_in words) file before.read_faults middle.read_faults → FailsToRead (name_in words) file before.read_faults now.read_faults
+fails_later words file before middle now files failed = record {
+  name = failed.name;
+  named = failed.named;
+  rose = rose_after (before.read_faults failed.name) (middle.read_faults failed.name) (now.read_faults failed.name) failed.rose (files.later failed.name);
+}
+
+-- a put that failed, seen from before
+pub put_failed : (name : Option (List ℕ)) (before middle now : ShelfFacts) → OnlyReads before middle → FailsToPut name middle.put_faults now.put_faults → FailsToPut name before.put_faults now.put_faults
+put_failed name before middle now reads failed = record {
+  put = failed.put;
+  named = failed.named;
+  rose = rose_before (before.put_faults failed.put) (middle.put_faults failed.put) (now.put_faults failed.put) (reads.puts_later failed.put) failed.rose;
+}
+
+none_cut : (before now middle : Devices) (words : List (List ℕ)) (ending : Ending) → OnlyReads before.shelf middle.shelf → middle.out ≡ before.out → NoneFailed words before now
+    → FailedToPut (put_name words) middle now ⊎ FailedToWrite (put_name words) ending middle now → ⊥
+none_cut before now middle words ending reads out quiet (inl failed) = quiet.puts (put_failed (put_name words) before.shelf middle.shelf now.shelf reads failed.put)
+none_cut before now middle words ending reads out quiet (inr failed) = quiet.out (subst (λ (o : SinkFacts). Rose o.faults now.out.faults) out failed.rose)
+
 -- ---- the answer
 
--- the answer where the words and the files came to work
-pub settled_ok : (before now : ShelfFacts) (words : List (List ℕ)) (found : Found) (text : List ℕ) (out_before out_now : ℕ) (result : Answer) (outcome : Result Work Answer)
-    → IsFound before now (name_in words) found → IsDoneBy (Prepares found words) text → (result ≡ answers.Ok) ⊎ (result ≡ answers.WriteFault) → (result ≡ answers.WriteFault → Rose out_before out_now)
-    → IsTrue before.tells → Prepares (held before.contents words) words outcome
-    → ((file : File) → FailsToRead (name_in words) file before.read_faults now.read_faults → ⊥) → (Rose out_before out_now → ⊥)
+settled_either : (before now middle : Devices) (words : List (List ℕ)) (found : Found) (ending : Ending) (result : Answer) (outcome : Result Work Answer)
+    → IsFound before.shelf middle.shelf (name_in words) found → IsDoneBy (Prepares found words) ending → IsFinished (put_name words) ending middle now result → OnlyReads before.shelf middle.shelf
+    → middle.out ≡ before.out → IsTrue before.shelf.tells → Prepares (held before.shelf.contents words) words outcome → NoneFailed words before now → (result ≡ answers.Ok) ⊎ (result ≡ answers.WriteFault)
     → (result ≡ answer_to outcome) ⊎ (result ≡ answers.NoMemory)
-settled_ok before now words found text out_before out_now result outcome is done (inl ok) writes tells held_is none quiet =
-    let same = found_is_held before now words found tells none is in
+settled_either before now middle words found ending result outcome is done finished reads out tells held_is quiet (inl ok) =
+    let none : (file : File) → FailsToRead (name_in words) file before.shelf.read_faults middle.shelf.read_faults → ⊥ =
+    λ file failed. quiet.reads file (fails_later words file before.shelf middle.shelf now.shelf finished.files failed) in
+    let same = found_is_held before.shelf middle.shelf words found tells none is in
     let work = subst (λ (f : Found). Prepares f words (Ok done.work)) same done.is in
-    inl (ok ∙ ap answer_to (prepares-one (held before.contents words) words (Ok done.work) outcome work held_is))
-settled_ok before now words found text out_before out_now result outcome is done (inr cut) writes tells held_is none quiet = absurd (quiet (writes cut))
+    inl (ok ∙ ap answer_to (prepares-one (held before.shelf.contents words) words (Ok done.work) outcome work held_is))
+settled_either before now middle words found ending result outcome is done finished reads out tells held_is quiet (inr cut) =
+    absurd (none_cut before now middle words ending reads out quiet (finished.part cut))
+
+-- the answer where the words and the files came to work
+pub settled_ok : (before now middle : Devices) (words : List (List ℕ)) (found : Found) (ending : Ending) (result : Answer) (outcome : Result Work Answer)
+    → IsFound before.shelf middle.shelf (name_in words) found → IsDoneBy (Prepares found words) ending → IsFinished (put_name words) ending middle now result → OnlyReads before.shelf middle.shelf
+    → middle.out ≡ before.out → IsTrue before.shelf.tells → Prepares (held before.shelf.contents words) words outcome → NoneFailed words before now → (result ≡ answer_to outcome) ⊎ (result ≡ answers.NoMemory)
+settled_ok before now middle words found ending result outcome is done finished reads out tells held_is quiet =
+    settled_either before now middle words found ending result outcome is done finished reads out tells held_is quiet finished.either
 
 -- the answer where they came to a refusal
 pub settled_err : (before now : ShelfFacts) (words : List (List ℕ)) (found : Found) (answer : Answer) (outcome : Result Work Answer)
@@ -96,24 +144,146 @@ settled_err before now words found answer outcome is (inr refused) tells held_is
     let stops = subst (λ (f : Found). Prepares f words (Err answer)) same refused in
     inl (ap answer_to (prepares-one (held before.contents words) words (Err answer) outcome stops held_is))
 
--- ---- why the answer comes, and what was written
+-- ---- why the answer comes, and what was put and written
 
-pub concludes_ok : (found : Found) (words : List (List ℕ)) (text : List ℕ) (before now : Option (List ℕ)) (answer : Answer) → IsDoneBy (Prepares found words) text
-    → (answer ≡ answers.Ok) ⊎ (answer ≡ answers.WriteFault) → (answer ≡ answers.Ok → Took before now text) → (answer ≡ answers.WriteFault → TookPart before now text) → Concludes found words before now answer
-concludes_ok found words text before now answer done either whole part =
-    let is_done : IsDone found words answers.Ok text = record { work = done.work; is = done.is; ends = done.ends } in
+holds_from : (name put : Option (List ℕ)) (before middle now : ShelfFacts) → OnlyReads before middle → Holds middle now name put → Holds before now name put
+holds_from name None before middle now reads holds = holds ∙ reads.same
+holds_from None (Some bytes) before middle now reads holds = holds
+holds_from (Some name) (Some bytes) before middle now reads holds = λ tells. holds (subst IsTrue (sym reads.as_told) tells)
+
+whole_from : (name : Option (List ℕ)) (ending : Ending) (before middle now : Devices) → OnlyReads before.shelf middle.shelf → middle.out ≡ before.out → IsWhole name ending middle now → IsWhole name ending before now
+whole_from name ending before middle now reads out whole = record {
+  holds = holds_from name ending.put before.shelf middle.shelf now.shelf reads whole.holds;
+  taken = subst (λ (o : SinkFacts). Took o.taken now.out.taken ending.text) out whole.taken;
+}
+
+part_from : (words : List (List ℕ)) (ending : Ending) (before middle now : Devices) → OnlyReads before.shelf middle.shelf → SameCounts before.shelf middle.shelf → middle.out ≡ before.out
+    → FailedToPut (put_name words) middle now ⊎ FailedToWrite (put_name words) ending middle now → FailedToPut (put_name words) before now ⊎ FailedToWrite (put_name words) ending before now
+part_from words ending before middle now reads counts out (inl failed) = inl (record { put = put_failed (put_name words) before.shelf middle.shelf now.shelf reads failed.put; out = failed.out ∙ out })
+part_from words ending before middle now reads counts out (inr failed) = inr (record {
+  holds = holds_from (put_name words) ending.put before.shelf middle.shelf now.shelf reads failed.holds;
+  counts = same_counts before.shelf middle.shelf now.shelf counts failed.counts;
+  taken = subst (λ (o : SinkFacts). TookPart o.taken now.out.taken ending.text) out failed.taken;
+  rose = subst (λ (o : SinkFacts). Rose o.faults now.out.faults) out failed.rose;
+})
+
+pub concludes_ok : (found : Found) (words : List (List ℕ)) (ending : Ending) (before middle now : Devices) (answer : Answer) → IsDoneBy (Prepares found words) ending → OnlyReads before.shelf middle.shelf
+    → SameCounts before.shelf middle.shelf → middle.out ≡ before.out → IsFinished (put_name words) ending middle now answer → Concludes found words before now answer
+concludes_ok found words ending before middle now answer done reads counts out finished =
+    let is_done : IsDone found words answers.Ok ending = record { work = done.work; is = done.is; ends = done.ends } in
     record {
-      ok = λ e. record { text = text; done = is_done; taken = whole e };
-      part = λ e. record { text = text; done = is_done; taken = part e };
-      refused = λ ok write memory. neither answer ok write either;
-      quiet = λ ok write. neither answer ok write either;
+      ok = λ e. record { ending = ending; done = is_done; whole = whole_from (put_name words) ending before middle now reads out (finished.whole e) };
+      part = λ e. record { ending = ending; done = is_done; part = part_from words ending before middle now reads counts out (finished.part e) };
+      refused = λ ok write memory. neither answer ok write finished.either;
+      quiet = λ ok write. neither answer ok write finished.either;
     }
 
-pub concludes_err : (found : Found) (words : List (List ℕ)) (before now : Option (List ℕ)) (answer : Answer) → Finishes (Prepares found words) (Err answer) → IsRefusal answer → now ≡ before
+pub concludes_err : (found : Found) (words : List (List ℕ)) (before now : Devices) (answer : Answer) → Finishes (Prepares found words) (Err answer) → IsRefusal answer → IsQuiet before now
     → Concludes found words before now answer
-concludes_err found words before now answer finishes refusal same = record {
+concludes_err found words before now answer finishes refusal quiet = record {
   ok = λ e. absurd (refusal.ok e);
   part = λ e. absurd (refusal.write e);
   refused = λ ok write memory. unless_memory found words answer finishes memory;
-  quiet = λ ok write. same;
+  quiet = λ ok write. quiet;
 }
+
+-- ---- files and counts over the whole run
+
+pub files_from : (name : Option (List ℕ)) (before middle now : ShelfFacts) → OnlyReads before middle → KeepsFiles name middle now → KeepsFiles name before now
+files_from name before middle now reads files = record {
+  as_told = files.as_told ∙ reads.as_told;
+  all = λ none. files.all none ∙ reads.same;
+  others = λ put other named differs. files.others put other named differs ∙ ap (λ (contents : Contents). contents other) reads.same;
+  later = λ other. le_trans (reads.later other) (files.later other);
+  puts_later = λ other. le_trans (reads.puts_later other) (files.puts_later other);
+}
+
+pub files_read : (name : Option (List ℕ)) (before now : ShelfFacts) → OnlyReads before now → KeepsFiles name before now
+files_read name before now reads = record {
+  as_told = reads.as_told;
+  all = λ none. reads.same;
+  others = λ put other named differs. ap (λ (contents : Contents). contents other) reads.same;
+  later = reads.later;
+  puts_later = reads.puts_later;
+}
+
+pub counts_kept : (words : List (List ℕ)) (ending : Ending) (before middle now : Devices) (answer : Answer) → OnlyReads before.shelf middle.shelf → SameCounts before.shelf middle.shelf
+    → IsFinished (put_name words) ending middle now answer → KeepsCounts words answer before.shelf now.shelf
+counts_kept words ending before middle now answer reads counts finished = λ no_read no_put.
+    elim finished.either [
+      | inl ok ↦ same_counts before.shelf middle.shelf now.shelf counts ((finished.counts ok).0)
+      | inr cut ↦ elim (finished.part cut) [
+        | inl failed ↦ absurd (no_put cut (put_failed (put_name words) before.shelf middle.shelf now.shelf reads failed.put))
+        | inr failed ↦ same_counts before.shelf middle.shelf now.shelf counts failed.counts
+      ]
+    ]
+
+out_kept : (name : Option (List ℕ)) (ending : Ending) (before now : Devices) (answer : Answer) → IsFinished name ending before now answer → answer ≢ answers.WriteFault → now.out.faults ≡ before.out.faults
+out_kept name ending before now answer finished other = elim finished.either [
+  | inl ok ↦ (finished.counts ok).1
+  | inr cut ↦ absurd (other cut)
+]
+
+-- ---- a run that came to work
+
+found_under_later : (name found : Option (List ℕ)) (before middle now : ShelfFacts) → ((n : List ℕ) → middle.read_faults n ≤ now.read_faults n) → IsFoundUnder before middle name found → IsFoundUnder before now name found
+found_under_later None found before middle now later is = is
+found_under_later (Some name) found before middle now later (inl held) = inl held
+found_under_later (Some name) found before middle now later (inr failed) =
+    inr (failed.0, rose_after (before.read_faults name) (middle.read_faults name) (now.read_faults name) failed.1 (later name))
+
+found_later : (names : File → Option (List ℕ)) (found : Found) (before middle now : ShelfFacts) → ((name : List ℕ) → middle.read_faults name ≤ now.read_faults name) → IsFound before middle names found → IsFound before now names found
+found_later names found before middle now later is = record {
+  circuit = found_under_later (names files.Circuit) found.circuit before middle now later is.circuit;
+  trap = found_under_later (names files.Trap) found.trap before middle now later is.trap;
+  schedule = found_under_later (names files.Schedule) found.schedule before middle now later is.schedule;
+}
+
+no_line_of_place : (answer : Answer) (fault : PlaceFault) → (answer ≡ answers.Ok) ⊎ (answer ≡ answers.WriteFault) → answer ≢ answers.Place fault
+no_line_of_place answer fault (inl ok) place = cc
+no_line_of_place answer fault (inr cut) place = cc
+
+-- the end of a run that came to work, and what was before
+pub record CameToWork (words : List (List ℕ)) (before middle now : Devices) (ending : Ending) (answer : Answer) : Type 0 where
+  pub found : Found
+  pub is_found : IsFound before.shelf middle.shelf (name_in words) found
+  pub done : IsDoneBy (Prepares found words) ending
+  pub reads : OnlyReads before.shelf middle.shelf
+  pub counts : SameCounts before.shelf middle.shelf
+  pub out : middle.out ≡ before.out
+  pub finished : IsFinished (put_name words) ending middle now answer
+
+pub ran_ok : (words : List (List ℕ)) (before middle now : Devices) (ending : Ending) (answer : Answer) → CameToWork words before middle now ending answer
+    → Tells before.err now.err (fault_line (names_of None) answer) → Runs words before now answer
+ran_ok words before middle now ending answer came told = record {
+  found = came.found;
+  is_found = found_later (name_in words) came.found before.shelf middle.shelf now.shelf came.finished.files.later came.is_found;
+  concludes = concludes_ok came.found words ending before middle now answer came.done came.reads came.counts came.out came.finished;
+  names = names_of None;
+  named = λ fault place. absurd (no_line_of_place answer fault came.finished.either place);
+  told = told;
+}
+
+pub settles_ok : (words : List (List ℕ)) (before middle now : Devices) (ending : Ending) (answer : Answer) → CameToWork words before middle now ending answer
+    → (outcome : Result Work Answer) → IsTrue before.shelf.tells → Prepares (held before.shelf.contents words) words outcome → NoneFailed words before now → (answer ≡ answer_to outcome) ⊎ (answer ≡ answers.NoMemory)
+settles_ok words before middle now ending answer came outcome tells held_is none =
+    settled_ok before now middle words came.found ending answer outcome came.is_found came.done came.finished came.reads came.out tells held_is none
+
+pub keeps_ok : (words : List (List ℕ)) (before middle now : Devices) (ending : Ending) (answer : Answer) → CameToWork words before middle now ending answer → KeepsCounts words answer before.shelf now.shelf
+keeps_ok words before middle now ending answer came = counts_kept words ending before middle now answer came.reads came.counts came.finished
+
+pub keeps_out_ok : (words : List (List ℕ)) (before middle now : Devices) (ending : Ending) (answer : Answer) → CameToWork words before middle now ending answer → answer ≢ answers.WriteFault
+    → now.out.faults ≡ before.out.faults
+keeps_out_ok words before middle now ending answer came other =
+    out_kept (put_name words) ending middle now answer came.finished other ∙ ap (λ (o : SinkFacts). o.faults) came.out
+
+pub files_ok : (words : List (List ℕ)) (before middle now : Devices) (ending : Ending) (answer : Answer) → CameToWork words before middle now ending answer → KeepsFiles (put_name words) before.shelf now.shelf
+files_ok words before middle now ending answer came = files_from (put_name words) before.shelf middle.shelf now.shelf came.reads came.finished.files
+
+pub no_usage : (answer : Answer) → (answer ≡ answers.Ok) ⊎ (answer ≡ answers.WriteFault) → answer ≢ answers.Usage
+no_usage answer (inl ok) e = cc
+no_usage answer (inr cut) e = cc
+
+pub no_read_fault : (answer : Answer) (file : File) → (answer ≡ answers.Ok) ⊎ (answer ≡ answers.WriteFault) → answer ≢ answers.ReadFault file
+no_read_fault answer file (inl ok) e = cc
+no_read_fault answer file (inr cut) e = cc

@@ -3,6 +3,7 @@ use Rattle.std.proofs.Common.{◌≡◌, List, ℕ, Option, Result, Ok, Err, ref
 use Rattle.qasm_read.proofs.OneReading.{one_reading}
 use Rattle.run_answers.specs.declared.answer.Answer.{Answer}
 use Rattle.run_answers.specs.declared.answer.Answer.TheVariants as answers
+use Rattle.qccd.specs.declared.ending.Ending.{Ending}
 use Rattle.qccd.specs.Work.{Work}
 use Rattle.qccd.specs.Stages.{GoesOn, Then, As}
 use Rattle.qccd.specs.Prepare.{CircuitOf, TrapOf, InputsOf}
@@ -59,9 +60,9 @@ pub reached_value : {X : Type 0} (stage : Result X Answer → Type 0) (x : X) �
 reached_value stage x (inl none) = absurd cc
 reached_value stage x (inr is) = is
 
--- and where the last stage ends in a text
-pub finishes_ok : {X : Type 0} (first : Result X Answer → Type 0) (next : X → Result Work Answer → Type 0) (x : X) (r : Result (List ℕ) Answer) → Reached first (Ok x) → Finishes (next x) r → Finishes (Then first next) r
-finishes_ok first next x (Ok text) reached done = record { work = done.work; is = then_ok first next x (Ok done.work) (reached_value first x reached) done.is; ends = done.ends }
+-- and where the last stage ends in work
+pub finishes_ok : {X : Type 0} (first : Result X Answer → Type 0) (next : X → Result Work Answer → Type 0) (x : X) (r : Result Ending Answer) → Reached first (Ok x) → Finishes (next x) r → Finishes (Then first next) r
+finishes_ok first next x (Ok ending) reached done = record { work = done.work; is = then_ok first next x (Ok done.work) (reached_value first x reached) done.is; ends = done.ends }
 finishes_ok first next x (Err answer) reached (inl none) = inl none
 finishes_ok first next x (Err answer) reached (inr is) = inr (then_ok first next x (Err answer) (reached_value first x reached) is)
 

@@ -5,7 +5,7 @@ use Rattle.qc_base.specs.Causes.{Rose}
 use Rattle.qc_base.specs.Shelf.{Contents, ShelfFacts}
 use Rattle.request_words.specs.declared.file.File.{File}
 use Rattle.request_words.specs.declared.file.File.TheVariants.{Circuit, Trap, Schedule}
-use Rattle.request_words.specs.Request.{request_of, file_of}
+use Rattle.request_words.specs.Request.{request_of, file_of, put_of}
 
 -- the bytes of each file, or nothing where it can't be read
 pub record Found : Type 0 where
@@ -46,3 +46,13 @@ pub record FailsToRead (names : File → Option (List ℕ)) (file : File) (befor
   pub name : List ℕ
   pub named : names file ≡ Some name
   pub rose : Rose (before name) (now name)
+
+-- the name under which the request of the words puts a file, where it puts one
+abbrev pub put_name : List (List ℕ) → Option (List ℕ)
+put_name words = option_and_then put_of (request_of words)
+
+-- a file is put under a name, and a put of that very name failed
+pub record FailsToPut (name : Option (List ℕ)) (before now : List ℕ → ℕ) : Type 0 where
+  pub put : List ℕ
+  pub named : name ≡ Some put
+  pub rose : Rose (before put) (now put)

@@ -1,7 +1,7 @@
 -- ---- working notions of private functions: stages that read files, and what they hand on
 use Rattle.std.specs.Prelude.{◌≡◌, ◌≢◌, ℕ, List, ◌⊎◌, Option, Some, None, Result, Ok, Err}
 use Rattle.qc_base.specs.Causes.{Rose}
-use Rattle.qc_base.specs.Shelf.{ShelfFacts}
+use Rattle.qc_base.specs.Shelf.{ShelfFacts, SameCounts}
 use Rattle.qasm_read.specs.declared.fault.QasmFault.{QasmFault}
 use Rattle.qasm_read.specs.declared.fault.QasmFault.TheVariants as qasm_faults
 use Rattle.gate_expand.specs.declared.fault.ExpandFault.{ExpandFault}
@@ -15,6 +15,7 @@ use Rattle.request_words.specs.declared.file.File.TheVariants.{Circuit, Trap, Sc
 use Rattle.run_answers.specs.declared.answer.Answer.{Answer}
 use Rattle.run_answers.specs.declared.answer.Answer.TheVariants as answers
 use Rattle.qccd.specs.declared.inputs.Inputs.{Inputs}
+use Rattle.qccd.specs.declared.ending.Ending.{Ending}
 use Rattle.qccd.specs.Work.{Work, Ends}
 use Rattle.qccd.specs.Found.{IsFoundAs, FailsToRead}
 use Rattle.qccd.specs.Prepare.{InputsOf}
@@ -36,14 +37,19 @@ abbrev pub place_refusal : PlaceFault → Answer
 place_refusal place_faults.NoMemory = answers.NoMemory
 place_refusal fault = answers.Place fault
 
--- an answer that comes before anything is written
+-- an answer that comes before anything is put or written
 pub record IsRefusal (answer : Answer) : Type 0 where
   pub ok : answer ≢ answers.Ok
   pub write : answer ≢ answers.WriteFault
 
+-- the same to words that are a request
+pub record IsOfRequest (answer : Answer) : Type 0 where
+  pub refusal : IsRefusal answer
+  pub usage : answer ≢ answers.Usage
+
 -- the same, and none of a placement
 pub record IsOfFiles (answer : Answer) : Type 0 where
-  pub refusal : IsRefusal answer
+  pub request : IsOfRequest answer
   pub place : (fault : PlaceFault) → answer ≢ answers.Place fault
 
 -- the same, and no fault of a device
@@ -72,12 +78,12 @@ pub record LoadsBoth (before now : ShelfFacts) (circuit trap : List ℕ) (result
 -- the file could not be read only where the count of its very name rose, and else no count changed
 pub record Counts {X : Type 0} (file : File) (name : List ℕ) (before now : ShelfFacts) (result : Result X Answer) : Type 0 where
   pub failed : (which : File) → result ≡ Err (answers.ReadFault which) → (which ≡ file) × Rose (before.read_faults name) (now.read_faults name)
-  pub stays : ((which : File) → result ≢ Err (answers.ReadFault which)) → now.read_faults ≡ before.read_faults
+  pub stays : ((which : File) → result ≢ Err (answers.ReadFault which)) → SameCounts before now
 
 -- the same of a stage that reads files of these names
 pub record CountsAll {X : Type 0} (names : File → Option (List ℕ)) (before now : ShelfFacts) (result : Result X Answer) : Type 0 where
   pub failed : (which : File) → result ≡ Err (answers.ReadFault which) → FailsToRead names which before.read_faults now.read_faults
-  pub stays : ((which : File) → result ≢ Err (answers.ReadFault which)) → now.read_faults ≡ before.read_faults
+  pub stays : ((which : File) → result ≢ Err (answers.ReadFault which)) → SameCounts before now
 
 -- the names of a circuit and a trap
 abbrev pub two_names : List ℕ → List ℕ → File → Option (List ℕ)
@@ -85,12 +91,12 @@ two_names circuit trap Circuit = Some circuit
 two_names circuit trap Trap = Some trap
 two_names circuit trap Schedule = None
 
--- a stage came to work that ends with this text, or to this refusal
-pub record IsDoneBy (stage : Result Work Answer → Type 0) (text : List ℕ) : Type 0 where
+-- a stage came to work that ends so, or to this refusal
+pub record IsDoneBy (stage : Result Work Answer → Type 0) (ending : Ending) : Type 0 where
   pub work : Work
   pub is : stage (Ok work)
-  pub ends : Ends work answers.Ok text
+  pub ends : Ends work answers.Ok ending
 
-abbrev pub Finishes : (Result Work Answer → Type 0) → Result (List ℕ) Answer → Type 0
-Finishes stage (Ok text) = IsDoneBy stage text
+abbrev pub Finishes : (Result Work Answer → Type 0) → Result Ending Answer → Type 0
+Finishes stage (Ok ending) = IsDoneBy stage ending
 Finishes stage (Err answer) = (answer ≡ answers.NoMemory) ⊎ stage (Err answer)

@@ -1,6 +1,6 @@
 -- What the words and the files come to: work to do, or a refusal.
 use Rattle.std.specs.Prelude.{ℕ, ◌+◌, ◌^◌, nat_le, Bool, false, ◌&&◌, List, [], ◌∷◌, length, Option, Some, None, Result, Ok, Err, if◌then◌else◌}
-use Rattle.std.specs.Option.{ok_or}
+use Rattle.std.specs.Option.{ok_or, option_map_or}
 use Rattle.qc_base.specs.declared.ids.Qubit.{Qubit}
 use Rattle.circuit_core.specs.Circuit.{CircuitValue, qubit_count}
 use Rattle.qasm_read.specs.declared.statement.Placed.{Placed}
@@ -13,6 +13,7 @@ use Rattle.placement.specs.declared.rule.PlaceRule.{PlaceRule}
 use Rattle.placement.specs.declared.fault.PlaceFault.{PlaceFault}
 use Rattle.placement.specs.Placing.{Table, place_by}
 use Rattle.step_rules.specs.Setting.{SettingValue, setting_of}
+use Rattle.step_rules.specs.declared.action.Action.{Action}
 use Rattle.verify_core.specs.declared.judge.Checked.{Checked}
 use Rattle.verify_core.specs.Judging.{Judges}
 use Rattle.verify_core.specs.declared.fault.CheckFault.{CheckFault}
@@ -23,7 +24,7 @@ use Rattle.request_words.specs.Request.{Asked, compile, check, verify, report, l
 use Rattle.run_answers.specs.declared.answer.Answer.{Answer}
 use Rattle.run_answers.specs.declared.answer.Answer.TheVariants as answers
 use Rattle.qccd.specs.declared.inputs.Inputs.{Inputs}
-use Rattle.qccd.specs.Work.{Work, make, judged}
+use Rattle.qccd.specs.Work.{Work, make, judged, reported}
 use Rattle.qccd.specs.Stages.{Then, Is, As}
 use Rattle.qccd.specs.Found.{Found}
 
@@ -100,18 +101,22 @@ check_refusal (checks.Text line) = answers.Text line
 check_refusal (checks.Illegal fault) = answers.Illegal fault
 check_refusal checks.NoMemory = answers.NoMemory
 
--- work that is done, or a refusal
-abbrev pub as_judged : Inputs → Result Checked CheckFault → Result Work Answer
-as_judged inputs (Ok checked) = Ok (judged (setting_of inputs.trap inputs.circuit checked.placement) checked.schedule)
-as_judged inputs (Err fault) = Err (check_refusal fault)
+-- work with a schedule that plays, or a refusal
+abbrev pub as_judged : (SettingValue → List (List Action) → Work) → Inputs → Result Checked CheckFault → Result Work Answer
+as_judged work inputs (Ok checked) = Ok (work (setting_of inputs.trap inputs.circuit checked.placement) checked.schedule)
+as_judged work inputs (Err fault) = Err (check_refusal fault)
 
 -- whether the bytes are the text of a schedule that plays
-abbrev pub JudgedIn : Inputs → List ℕ → Result Work Answer → Type 0
-JudgedIn inputs bytes = As (Judges inputs.trap inputs.circuit bytes) (as_judged inputs)
+abbrev pub JudgedIn : (SettingValue → List (List Action) → Work) → Inputs → List ℕ → Result Work Answer → Type 0
+JudgedIn work inputs bytes = As (Judges inputs.trap inputs.circuit bytes) (as_judged work inputs)
 
 -- the schedule's file
-abbrev pub JudgedOf : Option (List ℕ) → Inputs → Result Work Answer → Type 0
-JudgedOf content inputs = Then (Is (bytes_of Schedule content)) (JudgedIn inputs)
+abbrev pub JudgedOf : (SettingValue → List (List Action) → Work) → Option (List ℕ) → Inputs → Result Work Answer → Type 0
+JudgedOf work content inputs = Then (Is (bytes_of Schedule content)) (JudgedIn work inputs)
+
+-- the same after the files of the circuit and the trap
+abbrev pub JudgedFor : (SettingValue → List (List Action) → Work) → Found → Result Work Answer → Type 0
+JudgedFor work found = Then (InputsOf found.circuit found.trap) (JudgedOf work found.schedule)
 
 -- ---- all commands
 
@@ -119,11 +124,24 @@ JudgedOf content inputs = Then (Is (bytes_of Schedule content)) (JudgedIn inputs
 abbrev pub Comes : Found → Asked → Result Work Answer → Type 0
 Comes found (compile circuit trap rule None) = Then (InputsOf found.circuit found.trap) (λ inputs. Is (planned rule inputs))
 Comes found (compile circuit trap rule (Some search)) = Is (Err answers.Unbuilt)
-Comes found (check circuit trap schedule) = Then (InputsOf found.circuit found.trap) (JudgedOf found.schedule)
+Comes found (check circuit trap schedule) = JudgedFor judged found
 Comes found (verify circuit trap schedule cert) = Is (Err answers.Unbuilt)
-Comes found (report circuit trap schedule) = Is (Err answers.Unbuilt)
+Comes found (report circuit trap schedule) = JudgedFor reported found
 Comes found (load seed schedule) = Is (Err answers.Unbuilt)
 
 -- The words ask for something, and the files that it reads are read and judged one after another.
 abbrev pub Prepares : Found → List (List ℕ) → Result Work Answer → Type 0
 Prepares found words = Then (Is (ok_or (request_of words) answers.Usage)) (Comes found)
+
+-- the refusal that a request is by itself, whatever the files hold: exact mode and the other commands aren't built yet
+abbrev pub refused_request : Asked → Option Answer
+refused_request (compile circuit trap rule None) = None
+refused_request (compile circuit trap rule (Some search)) = Some answers.Unbuilt
+refused_request (check circuit trap schedule) = None
+refused_request (verify circuit trap schedule cert) = Some answers.Unbuilt
+refused_request (report circuit trap schedule) = None
+refused_request (load seed schedule) = Some answers.Unbuilt
+
+-- the refusal that words are by themselves
+abbrev pub refused_words : List (List ℕ) → Option Answer
+refused_words words = option_map_or refused_request (request_of words) (Some answers.Usage)

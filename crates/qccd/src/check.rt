@@ -1,82 +1,52 @@
 //! What is said of a schedule that plays.
 
-ghost use Rattle.std.specs.Prelude.{◌≡◌, ℕ, ◌<◌, ◌^◌, ◌++◌, List, length, codes, decimal, IfOk, IfErr, OnOk};
-ghost use Rattle.qc_base.specs.Counting.{how_many};
-ghost use Rattle.step_rules.specs.Play.{actions_of};
+ghost use Rattle.std.specs.Prelude.{◌≡◌, None, IfOk, IfErr};
+ghost use Rattle.step_rules.specs.Setting.{setting_of};
+ghost use Rattle.run_answers.specs.declared.answer.Answer.{Answer};
 ghost use Rattle.qccd.specs.Prepare.{check_refusal, JudgedIn};
-ghost use Rattle.qccd.specs.Work.{is_operation, legal_line};
+ghost use Rattle.qccd.specs.Preparing.{as_work};
+ghost use Rattle.qccd.specs.Work.{written, Ends};
 ghost use Rattle.qccd.specs.Loading.{Finishes, IsOfContent};
 
+use crate::ending::{Ending, written};
 use crate::inputs::Inputs;
-use qc_base::{Items, NoMemory, push_number};
+use qc_base::{Items, NoMemory};
 use run_answers::Answer;
+use schedule_report::{legal_line, report};
 use std::alloc::Global;
-use step_rules::{Action, Schedule, Step};
-use verify_core::{CheckFault, check};
-
-/// How many actions these steps have together.
-fn action_count(steps: &[Step]) -> u64
-    requires { length (actions_of steps.now) < 2 ^ 64 }
-    ensures { result ≡ length (actions_of steps.now) }
-{
-    let mut count = 0;
-    for step in steps {
-        count += step.actions().len() as u64;
-    }
-    count
-}
-
-fn is_operation(action: &Action) -> bool
-    ensures { result ≡ is_operation action.now }
-{
-    matches!(action, Action::Op { .. })
-}
-
-fn operations_in(actions: &[Action]) -> u64
-    ensures { result ≡ how_many is_operation actions.now }
-{
-    let mut count = 0;
-    for action in actions {
-        if is_operation(action) {
-            count += 1;
-        }
-    }
-    count
-}
-
-/// How many operations these steps perform together.
-#[tactic(auto, using(crate::proofs::Counting::step_counted, crate::proofs::Counting::operations_few))]
-fn operation_count(steps: &[Step]) -> u64
-    requires { length (actions_of steps.now) < 2 ^ 64 }
-    ensures { result ≡ how_many is_operation (actions_of steps.now) }
-{
-    let mut count = 0;
-    for step in steps {
-        count += operations_in(step.actions());
-    }
-    count
-}
-
-/// A text, and then a number.
-fn push_count(out: &mut Vec<u8>, text: &[u8], count: u64) -> Result<(), NoMemory>
-    ensures { OnOk result (out.new.items ≡ out.old.items ++ text.now ++ decimal count) }
-{
-    out.extend_from_slice(text)?;
-    push_number(out, count)
-}
+use step_rules::Setting;
+use verify_core::{CheckFault, Checked, check};
 
 /// What is said of a schedule that plays.
-fn legal_line(alloc: Global, schedule: &Schedule) -> Result<Vec<u8>, NoMemory>
-    requires { length (actions_of schedule.now) < 2 ^ 64 }
-    ensures { IfOk result (λ text. text.items ≡ legal_line schedule.now) }
+#[derive(Clone, Copy, Debug, PartialEq, Eq)]
+pub enum Saying {
+    /// The line of a check.
+    Line,
+    /// The report.
+    Report,
+}
+
+// What is said of a schedule that plays.
+fn said(
+    alloc: Global,
+    inputs: &Inputs,
+    checked: &Checked,
+    saying: Saying,
+) -> Result<Items<u8>, NoMemory>
+    ensures { IfOk result (λ text. Ends (as_work saying (setting_of inputs.now.trap inputs.now.circuit checked.now.placement) checked.now.schedule) Answer.Ok (written text)) }
 {
-    let steps = schedule.steps();
-    let mut out = Vec::new(alloc);
-    push_count(&mut out, b"legal steps ", steps.len() as u64)?;
-    push_count(&mut out, b" actions ", action_count(steps))?;
-    push_count(&mut out, b" operations ", operation_count(steps))?;
-    out.extend_from_slice(b"\n")?;
-    Ok(out)
+    let text = match saying {
+        Saying::Line => legal_line(alloc, &checked.schedule)?,
+        Saying::Report => {
+            let setting = Setting {
+                trap: &inputs.trap,
+                circuit: &inputs.circuit,
+                placement: &checked.placement,
+            };
+            report(alloc, &setting, &checked.schedule)?
+        }
+    };
+    Ok(Items::from_vec(text))
 }
 
 /// The answer to bytes that are no text of a schedule that plays.
@@ -92,13 +62,19 @@ fn check_refusal(fault: CheckFault) -> Answer
 }
 
 /// What is said of the schedule that the bytes are the text of, or the first bad line, or the first fault.
-pub fn judged_text(alloc: Global, inputs: &Inputs, bytes: &[u8]) -> Result<Items<u8>, Answer>
-    ensures done { Finishes (JudgedIn inputs.now bytes.now) result }
+pub fn judged(
+    alloc: Global,
+    inputs: &Inputs,
+    bytes: &[u8],
+    saying: Saying,
+) -> Result<Ending, Answer>
+    ensures done { Finishes (JudgedIn (as_work saying) inputs.now bytes.now) result }
+    ensures none { IfOk result (λ ending. ending.put ≡ None) }
     ensures kind { IfErr result IsOfContent }
 {
     match check(alloc, &inputs.trap, &inputs.circuit, bytes) {
-        Ok(checked) => match legal_line(alloc, &checked.schedule) {
-            Ok(text) => Ok(Items::from_vec(text)),
+        Ok(checked) => match said(alloc, inputs, &checked, saying) {
+            Ok(text) => Ok(written(text)),
             Err(NoMemory) => Err(Answer::NoMemory),
         },
         Err(fault) => Err(check_refusal(fault)),

@@ -151,3 +151,11 @@ file_of (check circuit trap schedule) file = named circuit trap (Some schedule) 
 file_of (verify circuit trap schedule cert) file = named circuit trap (Some schedule) file
 file_of (report circuit trap schedule) file = named circuit trap (Some schedule) file
 file_of (load seed schedule) file = None
+
+-- the name under which the request puts a file, where it puts one: the certificate of exact mode, and the schedule of a load
+abbrev pub put_of : Asked → Option (List ℕ)
+put_of (compile circuit trap rule search) = option_map (λ (limits : Search). limits.cert) search
+put_of (check circuit trap schedule) = None
+put_of (verify circuit trap schedule cert) = None
+put_of (report circuit trap schedule) = None
+put_of (load seed schedule) = Some schedule

@@ -2,7 +2,7 @@
 
 ghost use Rattle.std.specs.Prelude.{◌≡◌, ℕ, ◌<◌, List, length, map, string_bytes};
 ghost use Rattle.std.specs.Option.{option_map};
-ghost use Rattle.request_words.specs.Request.{Asked, request_of as asked_by, compile_of, compile_to, three_files, verify_of, load_of, check, report, texts, is_file_word as is_file};
+ghost use Rattle.request_words.specs.Request.{Asked, request_of as asked_by, compile_of, compile_to, three_files, verify_of, load_of, check, report, texts, put_of, is_file_word as is_file};
 ghost use Rattle.request_words.specs.Seen.{asked_of, options_of};
 
 use crate::options::{Given, is_file_word, number_in, options_from};
@@ -50,6 +50,20 @@ pub enum Request<'a> {
         seed: u64,
         schedule: &'a str,
     },
+}
+
+impl<'a> Request<'a> {
+    /// The name under which it puts a file, where it puts one: the certificate of exact mode, and the schedule of a
+    /// load.
+    pub fn put(&self) -> Option<&'a str>
+        ensures { option_map (λ name. name.now) result ≡ put_of (asked_of self.now) }
+    {
+        match *self {
+            Request::Compile { exact, .. } => exact.map(|exact| exact.cert),
+            Request::Load { schedule, .. } => Some(schedule),
+            _ => None,
+        }
+    }
 }
 
 fn compile_to<'a>(circuit: &'a str, trap: &'a str, given: Given<'a>) -> Option<Request<'a>>

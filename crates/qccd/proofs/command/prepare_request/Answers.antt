@@ -5,7 +5,9 @@ use Rattle.request_words.specs.declared.request.Request.TheVariants as requests
 use Rattle.request_words.specs.Request.{file_of}
 use Rattle.request_words.specs.Seen.{asked_of}
 use Rattle.qccd.specs.Prepare.{Comes}
-use Rattle.qccd.specs.Preparing.{Prepared}
+use Rattle.qccd.specs.declared.ending.Ending.{Ending}
+use Rattle.qccd.specs.Loading.{CountsAll}
+use Rattle.qccd.specs.Preparing.{Prepared, answer_in}
 use Rattle.qccd.proofs.Prepared.{unbuilt}
 use Rattle.qccd.proofs.command.prepare_request.Goals as goal
 
@@ -31,10 +33,8 @@ returns-in-Verify-clause-prepared g c =
 
 pub returns-in-Report-clause-prepared : goal.returns-in-Report-clause-prepared
 returns-in-Report-clause-prepared g c =
-    let facts = g.S.Shelf.facts c.args.shelf.now in
-    let request : Request = requests.Report c.in-Report.circuit c.in-Report.trap c.in-Report.schedule in
-    subst (λ (r : Request). Prepared (file_of (asked_of r)) (λ found. Comes found (asked_of r)) facts facts c.unbuilt-in-Report.result) (sym c.in-Report.is)
-    (unbuilt facts facts (asked_of request) c.unbuilt-in-Report.result c.unbuilt-in-Report.ensures (λ found. refl))
+    subst (λ (r : Request). Prepared (file_of (asked_of r)) (λ found. Comes found (asked_of r)) (g.S.Shelf.facts c.args.shelf.now) (g.S.Shelf.facts c.checked-in-Report.new.shelf) c.checked-in-Report.result) (sym c.in-Report.is)
+    c.checked-in-Report.ensures.prepared
 
 pub returns-in-Load-clause-prepared : goal.returns-in-Load-clause-prepared
 returns-in-Load-clause-prepared g c =
@@ -42,3 +42,12 @@ returns-in-Load-clause-prepared g c =
     let request : Request = requests.Load c.in-Load.seed c.in-Load.schedule in
     subst (λ (r : Request). Prepared (file_of (asked_of r)) (λ found. Comes found (asked_of r)) facts facts c.unbuilt-in-Load.result) (sym c.in-Load.is)
     (unbuilt facts facts (asked_of request) c.unbuilt-in-Load.result c.unbuilt-in-Load.ensures (λ found. refl))
+
+pub returns-in-Check-clause-counts : goal.returns-in-Check-clause-counts
+returns-in-Check-clause-counts g c =
+    subst (λ (r : Request). CountsAll {X = Ending} (file_of (asked_of r)) (g.S.Shelf.facts c.args.shelf.now) (g.S.Shelf.facts c.checked.new.shelf) (answer_in c.checked.result)) (sym c.in-Check.is) c.checked.ensures.counts
+
+pub returns-in-Report-clause-counts : goal.returns-in-Report-clause-counts
+returns-in-Report-clause-counts g c =
+    subst (λ (r : Request). CountsAll {X = Ending} (file_of (asked_of r)) (g.S.Shelf.facts c.args.shelf.now) (g.S.Shelf.facts c.checked-in-Report.new.shelf) (answer_in c.checked-in-Report.result)) (sym c.in-Report.is)
+    c.checked-in-Report.ensures.counts

@@ -3,4 +3,4 @@ use Rattle.qccd.proofs.Compiled.{compiled}
 use Rattle.qccd.proofs.laws.an_ok_compilation_is_compiled.Goals as goal
 
 pub returns : goal.returns
-returns c = λ words circuit trap rule before now request run. compiled run.found words circuit trap rule before.out.taken now.out.taken request (run.concludes.ok refl)
+returns c = λ words circuit trap rule before now request run. compiled run.found words circuit trap rule before now request (run.concludes.ok refl)
