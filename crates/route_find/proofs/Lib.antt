@@ -3,3 +3,4 @@ pub mod Ends
 pub mod Expanding
 pub mod Walking
 pub mod Following
+pub mod Back

@@ -2,6 +2,7 @@
 #![tactic(auto)]
 
 mod distances;
+mod laws;
 mod numbers;
 mod reach;
 mod routes;
@@ -10,5 +11,6 @@ mod search;
 mod tests;
 
 pub use distances::Distances;
+pub use laws::walks_lead_back;
 pub use reach::Reach;
 pub use routes::{Route, route};

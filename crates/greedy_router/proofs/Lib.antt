@@ -1,0 +1,17 @@
+pub mod Counts
+pub mod Moves
+pub mod Passing
+pub mod Turns
+pub mod Spare
+pub mod Crowds
+pub mod Meeting
+pub mod Whole
+pub mod Undone
+pub mod Ways
+pub mod Jobs
+pub mod Beginning
+pub mod RoomAnswers
+pub mod Rounds
+pub mod Gathering
+pub mod Travelling
+pub mod Carrying

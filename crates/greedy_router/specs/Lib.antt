@@ -1,0 +1,5 @@
+pub mod Room
+pub mod Serial
+pub mod Places
+pub mod Routing
+pub mod Traffic
