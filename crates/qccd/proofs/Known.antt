@@ -2,6 +2,7 @@
 use Rattle.std.proofs.Common.{◌≡◌, ℕ, zero, suc, ◌+◌, ◌<◌, ◌≤◌, ◌^◌, List, [], ◌∷◌, ◌++◌, length, length-append, Option, Some, None, Bool, true, false, refl, ap, subst, arith}
 use Rattle.std.specs.Prelude.{All, codes, decimal, nat_lt, nat_le, not, slice_get, ◌&&◌, if◌then◌else◌}
 use Rattle.std.specs.List.{flat_map}
+use Rattle.std.specs.Option.{option_map_or}
 use Rattle.std.proofs.lemmas.Bool.{leb-true, ltb-true}
 use Rattle.std.proofs.lemmas.Option.{same_Some}
 use Rattle.std.proofs.lemmas.List.Elements.{All-nil, All-cons, All-weaker}
@@ -29,7 +30,11 @@ use Rattle.step_rules.proofs.Kept.{step_kept, start_limits}
 use Rattle.step_rules.proofs.Moved.{any_limit_small, swap_passed}
 use Rattle.schedule_text.specs.Text.{place_lines, action_line, step_lines, schedule_text}
 use Rattle.schedule_text.specs.Reading.{IsKnown, Spells}
-use Rattle.qccd.proofs.Serial.{within}
+
+within : (ops : List Op) (test : Op → Bool) (k : ℕ) → option_map_or test (slice_get ops k) false ≡ true → k < length ops
+within [] test k e = absurd cc
+within (op ∷ ops) test zero e = omega arith
+within (op ∷ ops) test (suc k) e = let rest = within ops test k e in omega arith
 
 -- ---- guards that pass
 

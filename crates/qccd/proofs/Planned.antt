@@ -1,67 +1,57 @@
 -- The text of a schedule from the placement of a rule.
-use Rattle.std.proofs.Common.{◌≡◌, List, ℕ, Result, Ok, Err, refl, sym, ap, ◌∙◌, subst, inl, inr, true, false, Bool}
-use Rattle.std.specs.Prelude.{if◌then◌else◌}
+use Rattle.std.proofs.Common.{◌≡◌, List, ℕ, Result, Ok, Err, refl, sym, ap, subst, inl, inr}
 use Rattle.qc_base.specs.declared.ids.Qubit.{Qubit}
-use Rattle.circuit_core.specs.Circuit.{CircuitValue, IsCircuit, qubit_count}
-use Rattle.trap_model.specs.Trap.{TrapValue}
-use Rattle.step_rules.specs.declared.action.Action.{Action}
-use Rattle.step_rules.specs.Placement.{IsPlacement}
 use Rattle.step_rules.specs.Setting.{SettingValue, setting_of}
-use Rattle.schedule_text.specs.Text.{schedule_text}
 use Rattle.placement.specs.declared.fault.PlaceFault.{PlaceFault}
 use Rattle.placement.specs.declared.fault.PlaceFault.TheVariants as faults
 use Rattle.placement.specs.declared.rule.PlaceRule.{PlaceRule}
 use Rattle.placement.specs.Placing.{place_by}
 use Rattle.placement.specs.Faults.{Answers}
+use Rattle.greedy_router.specs.declared.has_room.RoomFault.{RoomFault}
+use Rattle.greedy_router.specs.declared.has_room.RoomFault.TheVariants as rooms
+use Rattle.greedy_router.specs.Room.{HasRoom, Explains}
 use Rattle.run_answers.specs.declared.answer.Answer.{Answer}
 use Rattle.run_answers.specs.declared.answer.Answer.TheVariants as answers
-use Rattle.qccd.specs.declared.inputs.Inputs.{Inputs}
 use Rattle.qccd.specs.declared.ending.Ending.{Ending}
+use Rattle.qccd.specs.declared.inputs.Inputs.{Inputs}
 use Rattle.qccd.specs.Work.{make, IsTightTextOf, IsScheduleWritten, written}
 use Rattle.qccd.specs.Stages.{Is}
-use Rattle.qccd.specs.Prepare.{serves, routed, from_placement, planned}
-use Rattle.qccd.specs.Serial.{one_by_one}
-use Rattle.qccd.specs.Loading.{Finishes, place_refusal}
-use Rattle.qccd.proofs.Serial.{is_served, plays_one_by_one, tight_one_by_one}
+use Rattle.qccd.specs.Prepare.{or_refuse, placed, Routed, Planned}
+use Rattle.qccd.specs.Loading.{Finishes, place_refusal, room_refusal}
+use Rattle.qccd.proofs.Stages.{finishes_ok, then_err}
 
-pub tight_text : (trap : TrapValue) (circuit : CircuitValue) (placement : List (List Qubit)) (schedule : List (List Action)) (text shown : List ℕ) → serves trap.zones (qubit_count circuit) ≡ true
-    → IsCircuit circuit → IsPlacement trap circuit placement → schedule ≡ one_by_one circuit → text ≡ schedule_text (setting_of trap circuit placement) schedule → shown ≡ text
-    → IsTightTextOf (setting_of trap circuit placement) shown
-tight_text trap circuit placement schedule text shown serves right placed serial is same = record {
-  is = record {
-    schedule = one_by_one circuit;
-    plays = plays_one_by_one trap circuit placement (is_served trap (qubit_count circuit) serves) right placed;
-    text_is = same ∙ is ∙ ap (schedule_text (setting_of trap circuit placement)) serial;
-  };
-  tight = tight_one_by_one _ circuit;
-}
+-- ---- a trap with room
 
--- ---- a trap that is built
-
-pub routed_ok : (setting : SettingValue) (text : List ℕ) (ending : Ending) → serves setting.trap.zones (qubit_count setting.circuit) ≡ true → IsTightTextOf setting text → ending ≡ written text
-    → Finishes (Is (routed setting)) (Ok ending)
-routed_ok setting text ending serves is made = record {
+pub routed_ok : (setting : SettingValue) (text : List ℕ) (ending : Ending) → HasRoom setting → IsTightTextOf setting text → ending ≡ written text → Finishes (Routed setting) (Ok ending)
+routed_ok setting text ending room is made = record {
   work = make setting;
-  is = sym (ap (λ (b : Bool). if b then Ok (make setting) else Err answers.Unbuilt) serves);
+  is = record { judgement = Ok tt; is = room; outcome_is = refl };
   ends = subst (IsScheduleWritten setting) (sym made) (record { schedule = is; none = refl });
 }
 
-pub routed_err : (setting : SettingValue) → serves setting.trap.zones (qubit_count setting.circuit) ≡ false → Finishes (Is (routed setting)) (Err answers.Unbuilt)
-routed_err setting other = inr (sym (ap (λ (b : Bool). if b then Ok (make setting) else Err answers.Unbuilt) other))
+no_room : (setting : SettingValue) (fault : RoomFault) → Explains setting fault → Finishes (Routed setting) (Err (room_refusal fault))
+no_room setting rooms.NoMemory said = inl refl
+no_room setting (rooms.Tight zone free) said = inr (record { judgement = Err (rooms.Tight zone free); is = said; outcome_is = refl })
+no_room setting (rooms.Apart zone) said = inr (record { judgement = Err (rooms.Apart zone); is = said; outcome_is = refl })
+no_room setting (rooms.NoAble op) said = inr (record { judgement = Err (rooms.NoAble op); is = said; outcome_is = refl })
+
+pub routed_err : (setting : SettingValue) (fault : RoomFault) (answer : Answer) → Explains setting fault → answer ≡ room_refusal fault → Finishes (Routed setting) (Err answer)
+routed_err setting fault answer said is = subst (λ (a : Answer). Finishes (Routed setting) (Err a)) (sym is) (no_room setting fault said)
 
 -- ---- the placement of a rule
 
-abbrev PlacedFrom : Inputs → Result (List (List Qubit)) PlaceFault → Result Ending Answer → Type 0
-PlacedFrom inputs placed r = Finishes (Is (from_placement inputs placed)) r
-
 pub planned_ok : (rule : PlaceRule) (inputs : Inputs) (placement : List (List Qubit)) (r : Result Ending Answer) → place_by inputs.trap inputs.circuit rule inputs.labels ≡ Ok placement
-    → Finishes (Is (routed (setting_of inputs.trap inputs.circuit placement))) r → Finishes (Is (planned rule inputs)) r
-planned_ok rule inputs placement r said done = subst (λ (placed : Result (List (List Qubit)) PlaceFault). PlacedFrom inputs placed r) (sym said) done
+    → Finishes (Routed (setting_of inputs.trap inputs.circuit placement)) r → Finishes (Planned rule inputs) r
+planned_ok rule inputs placement r said done =
+    finishes_ok (Is (placed rule inputs)) (λ placement. Routed (setting_of inputs.trap inputs.circuit placement)) placement r
+    (inr (sym (ap (λ (p : Result (List (List Qubit)) PlaceFault). or_refuse answers.Place p) said))) done
 
-not_placed : (rule : PlaceRule) (inputs : Inputs) (fault : PlaceFault) → place_by inputs.trap inputs.circuit rule inputs.labels ≡ Err fault → Finishes (Is (planned rule inputs)) (Err (answers.Place fault))
-not_placed rule inputs fault said = subst (λ (placed : Result (List (List Qubit)) PlaceFault). PlacedFrom inputs placed (Err (answers.Place fault))) (sym said) (inr refl)
+not_placed : (rule : PlaceRule) (inputs : Inputs) (fault : PlaceFault) → place_by inputs.trap inputs.circuit rule inputs.labels ≡ Err fault → Finishes (Planned rule inputs) (Err (answers.Place fault))
+not_placed rule inputs fault said =
+    inr (then_err (Is (placed rule inputs)) (λ placement. Routed (setting_of inputs.trap inputs.circuit placement)) (answers.Place fault)
+    (sym (ap (λ (p : Result (List (List Qubit)) PlaceFault). or_refuse answers.Place p) said)))
 
-refused : (rule : PlaceRule) (inputs : Inputs) (fault : PlaceFault) → Answers {X = List (List Qubit)} (Err fault) (place_by inputs.trap inputs.circuit rule inputs.labels) → Finishes (Is (planned rule inputs)) (Err (place_refusal fault))
+refused : (rule : PlaceRule) (inputs : Inputs) (fault : PlaceFault) → Answers {X = List (List Qubit)} (Err fault) (place_by inputs.trap inputs.circuit rule inputs.labels) → Finishes (Planned rule inputs) (Err (place_refusal fault))
 refused rule inputs faults.NoMemory said = inl refl
 refused rule inputs (faults.TooManyQubits qubits room) said = not_placed rule inputs (faults.TooManyQubits qubits room) said
 refused rule inputs faults.NoTable said = not_placed rule inputs faults.NoTable said
@@ -69,5 +59,5 @@ refused rule inputs (faults.UnknownQubit zone label) said = not_placed rule inpu
 refused rule inputs (faults.Given fault) said = not_placed rule inputs (faults.Given fault) said
 
 pub planned_err : (rule : PlaceRule) (inputs : Inputs) (fault : PlaceFault) (answer : Answer) → Answers {X = List (List Qubit)} (Err fault) (place_by inputs.trap inputs.circuit rule inputs.labels) → answer ≡ place_refusal fault
-    → Finishes (Is (planned rule inputs)) (Err answer)
-planned_err rule inputs fault answer said is = subst (λ (a : Answer). Finishes (Is (planned rule inputs)) (Err a)) (sym is) (refused rule inputs fault said)
+    → Finishes (Planned rule inputs) (Err answer)
+planned_err rule inputs fault answer said is = subst (λ (a : Answer). Finishes (Planned rule inputs) (Err a)) (sym is) (refused rule inputs fault said)

@@ -1,25 +1,26 @@
 -- What the commands come to before anything is written.
 use Rattle.std.proofs.Common.{◌≡◌, ◌≢◌, List, ℕ, Option, Some, None, Result, Ok, Err, refl, sym, ap, ◌∙◌, subst, inl, inr}
+use Rattle.std.specs.Prelude.{IsTrue, IfOk, IfErr, Bool, true, false}
+use Rattle.std.proofs.lemmas.Bool.{false≢true}
 use Rattle.std.specs.Option.{option_and_then, option_map, option_map_or, ok_or}
 use Rattle.qc_base.specs.Shelf.{ShelfFacts, OnlyReads, SameCounts}
 use Rattle.step_rules.specs.declared.action.Action.{Action}
 use Rattle.step_rules.specs.Setting.{SettingValue}
-use Rattle.placement.specs.declared.fault.PlaceFault.{PlaceFault}
 use Rattle.placement.specs.declared.rule.PlaceRule.{PlaceRule}
 use Rattle.request_words.specs.declared.file.File.{File}
 use Rattle.request_words.specs.declared.file.File.TheVariants as files
-use Rattle.request_words.specs.Request.{Asked, compile, request_of, named, file_of, put_of}
+use Rattle.request_words.specs.Request.{Asked, compile, load, request_of, named, file_of, put_of}
 use Rattle.run_answers.specs.declared.answer.Answer.{Answer}
 use Rattle.run_answers.specs.declared.answer.Answer.TheVariants as answers
 use Rattle.qccd.specs.declared.inputs.Inputs.{Inputs}
 use Rattle.qccd.specs.declared.command.Refusal.{Refusal}
 use Rattle.qccd.specs.declared.ending.Ending.{Ending}
-use Rattle.qccd.specs.Work.{Work}
+use Rattle.qccd.specs.Work.{Work, IsLoaded, loaded}
 use Rattle.qccd.specs.Stages.{Is, Then}
 use Rattle.qccd.specs.Found.{Found, name_in, put_name, IsFoundUnder, IsFound}
-use Rattle.qccd.specs.Prepare.{InputsOf, planned, JudgedOf, JudgedFor, Comes, Prepares, refused_request, refused_words}
+use Rattle.qccd.specs.Prepare.{InputsOf, Planned, JudgedOf, JudgedFor, Comes, Prepares, refused_request, refused_words}
 use Rattle.qccd.specs.Loading.{LoadsBoth, CountsAll, Finishes}
-use Rattle.run_answers.specs.Answer.{fault_line}
+use Rattle.run_answers.specs.Answer.{cites_names, fault_line}
 use Rattle.qccd.specs.Run.{HasNames, SinkFacts, Tells, Devices}
 use Rattle.qccd.specs.Preparing.{HasName, HasInputs, answer_in, Judging, Prepared, IsFinished, names_of}
 use Rattle.qccd.proofs.Stages.{reached_value, finishes_ok, finishes_err, then_ok, then_err}
@@ -34,23 +35,27 @@ same_refusal a b e = cc
 no_refusal : (ending : Ending) (refusal : Refusal) → ◌≢◌ {A = Result Ending Refusal} (Ok ending) (Err refusal)
 no_refusal ending refusal e = cc
 
--- a refusal of a placement comes with what the files describe
+-- a refusal whose line cites names comes with what the files describe
 abbrev pub Names : Found → Result Ending Refusal → Type 0
-Names found result = (refusal : Refusal) (fault : PlaceFault) → result ≡ Err refusal → refusal.answer ≡ answers.Place fault → HasInputs found refusal
+Names found result = (refusal : Refusal) → result ≡ Err refusal → IsTrue (cites_names refusal.answer) → HasInputs found refusal
 
 names_ok : (found : Found) (ending : Ending) → Names found (Ok ending)
-names_ok found ending refusal fault e place = absurd (no_refusal ending refusal e)
+names_ok found ending refusal e cites = absurd (no_refusal ending refusal e)
 
 names_late : (found : Found) (answer : Answer) (inputs : Inputs) → InputsOf found.circuit found.trap (Ok inputs) → Names found (Err (record { answer = answer; inputs = Some inputs }))
-names_late found answer inputs are refusal fault e place = record {
+names_late found answer inputs are refusal e cites = record {
   inputs = inputs;
   is = ap (λ (r : Refusal). r.inputs) (sym (same_refusal (record { answer = answer; inputs = Some inputs }) refusal e));
   are = are;
 }
 
-names_early : (found : Found) (answer : Answer) → ((fault : PlaceFault) → answer ≢ answers.Place fault) → Names found (Err (record { answer = answer; inputs = None }))
-names_early found answer other refusal fault e place =
-    absurd (other fault (ap (λ (r : Refusal). r.answer) (same_refusal (record { answer = answer; inputs = None }) refusal e) ∙ place))
+false_is_not : (b : Bool) → b ≡ false → IsTrue b → ⊥
+false_is_not b plain cites = let is : b ≡ true = cites in false≢true (sym plain ∙ is)
+
+names_early : (found : Found) (answer : Answer) → cites_names answer ≡ false → Names found (Err (record { answer = answer; inputs = None }))
+names_early found answer plain refusal e cites =
+    let same : answer ≡ refusal.answer = ap (λ (r : Refusal). r.answer) (same_refusal (record { answer = answer; inputs = None }) refusal e) in
+    absurd (false_is_not (cites_names refusal.answer) (subst (λ (a : Answer). cites_names a ≡ false) same plain) cites)
 
 -- ---- a compilation
 
@@ -61,31 +66,31 @@ abbrev pub PlanPrepared : ShelfFacts → ShelfFacts → List ℕ → List ℕ �
 PlanPrepared before now circuit trap rule result = Prepared (file_of (asked_plan circuit trap rule)) (λ found. Comes found (asked_plan circuit trap rule)) before now result
 
 pub plan_ok : (before now : ShelfFacts) (circuit trap : List ℕ) (rule : PlaceRule) (inputs : Inputs) (ending : Ending) → LoadsBoth before now circuit trap (Ok inputs)
-    → Finishes (Is (planned rule inputs)) (Ok ending) → PlanPrepared before now circuit trap rule (Ok ending)
+    → Finishes (Planned rule inputs) (Ok ending) → PlanPrepared before now circuit trap rule (Ok ending)
 plan_ok before now circuit trap rule inputs ending loads done = record {
   found = record { circuit = loads.circuit_file; trap = loads.trap_file; schedule = None };
   is_found = record { circuit = loads.circuit_found; trap = loads.trap_found; schedule = refl };
-  finishes = finishes_ok (InputsOf loads.circuit_file loads.trap_file) (λ inputs. Is (planned rule inputs)) inputs (Ok ending) loads.reached done;
+  finishes = finishes_ok (InputsOf loads.circuit_file loads.trap_file) (Planned rule) inputs (Ok ending) loads.reached done;
   named = names_ok (record { circuit = loads.circuit_file; trap = loads.trap_file; schedule = None }) ending;
 }
 
 pub plan_late : (before now : ShelfFacts) (circuit trap : List ℕ) (rule : PlaceRule) (inputs : Inputs) (answer : Answer) → LoadsBoth before now circuit trap (Ok inputs)
-    → Finishes (Is (planned rule inputs)) (Err answer) → PlanPrepared before now circuit trap rule (Err (record { answer = answer; inputs = Some inputs }))
+    → Finishes (Planned rule inputs) (Err answer) → PlanPrepared before now circuit trap rule (Err (record { answer = answer; inputs = Some inputs }))
 plan_late before now circuit trap rule inputs answer loads done =
     let found : Found = record { circuit = loads.circuit_file; trap = loads.trap_file; schedule = None } in
     record {
       found = found;
       is_found = record { circuit = loads.circuit_found; trap = loads.trap_found; schedule = refl };
-      finishes = finishes_ok (InputsOf loads.circuit_file loads.trap_file) (λ inputs. Is (planned rule inputs)) inputs (Err answer) loads.reached done;
+      finishes = finishes_ok (InputsOf loads.circuit_file loads.trap_file) (Planned rule) inputs (Err answer) loads.reached done;
       named = names_late found answer inputs (reached_value (InputsOf loads.circuit_file loads.trap_file) inputs loads.reached);
     }
 
-pub plan_early : (before now : ShelfFacts) (circuit trap : List ℕ) (rule : PlaceRule) (answer : Answer) → LoadsBoth before now circuit trap (Err answer) → ((fault : PlaceFault) → answer ≢ answers.Place fault)
+pub plan_early : (before now : ShelfFacts) (circuit trap : List ℕ) (rule : PlaceRule) (answer : Answer) → LoadsBoth before now circuit trap (Err answer) → cites_names answer ≡ false
     → PlanPrepared before now circuit trap rule (Err (record { answer = answer; inputs = None }))
 plan_early before now circuit trap rule answer loads other = record {
   found = record { circuit = loads.circuit_file; trap = loads.trap_file; schedule = None };
   is_found = record { circuit = loads.circuit_found; trap = loads.trap_found; schedule = refl };
-  finishes = finishes_err (InputsOf loads.circuit_file loads.trap_file) (λ inputs. Is (planned rule inputs)) answer loads.reached;
+  finishes = finishes_err (InputsOf loads.circuit_file loads.trap_file) (Planned rule) answer loads.reached;
   named = names_early (record { circuit = loads.circuit_file; trap = loads.trap_file; schedule = None }) answer other;
 }
 
@@ -122,7 +127,7 @@ check_late work before middle now circuit trap schedule inputs answer first seco
       named = names_late found answer inputs (reached_value (InputsOf loads.circuit_file loads.trap_file) inputs loads.reached);
     }
 
-pub check_early : (work : SettingValue → List (List Action) → Work) (before now : ShelfFacts) (circuit trap schedule : List ℕ) (answer : Answer) → LoadsBoth before now circuit trap (Err answer) → ((fault : PlaceFault) → answer ≢ answers.Place fault)
+pub check_early : (work : SettingValue → List (List Action) → Work) (before now : ShelfFacts) (circuit trap schedule : List ℕ) (answer : Answer) → LoadsBoth before now circuit trap (Err answer) → cites_names answer ≡ false
     → CheckPrepared work before now circuit trap schedule (Err (record { answer = answer; inputs = None }))
 check_early work before now circuit trap schedule answer loads other = record {
   found = record { circuit = loads.circuit_file; trap = loads.trap_file; schedule = before.contents schedule };
@@ -173,7 +178,7 @@ shelf_is_found : (before now : ShelfFacts) (names : File → Option (List ℕ)) 
 shelf_is_found before now names = record { circuit = under before now (names files.Circuit); trap = under before now (names files.Trap); schedule = under before now (names files.Schedule) }
 
 -- a refusal by the words alone
-pub refused_by_words : (before now : ShelfFacts) (words : List (List ℕ)) (answer : Answer) → ((fault : PlaceFault) → answer ≢ answers.Place fault) → ((found : Found) → Prepares found words (Err answer))
+pub refused_by_words : (before now : ShelfFacts) (words : List (List ℕ)) (answer : Answer) → cites_names answer ≡ false → ((found : Found) → Prepares found words (Err answer))
     → Prepared (name_in words) (λ found. Prepares found words) before now (Err (record { answer = answer; inputs = None }))
 refused_by_words before now words answer other refused = record {
   found = shelf_found before (name_in words);
@@ -202,12 +207,6 @@ no_name name put none = subst (HasName name) (sym none) tt
 pub name_of_request : (words : List (List ℕ)) (asked : Asked) (put : Option (List ℕ)) → request_of words ≡ Some asked → HasName (put_of asked) put → HasName (put_name words) put
 name_of_request words asked put some has = subst (λ (o : Option Asked). HasName (option_and_then put_of o) put) (sym some) has
 
-pub usage_places_nothing : (fault : PlaceFault) → answers.Usage ≢ answers.Place fault
-usage_places_nothing fault e = cc
-
-unbuilt_places_nothing : (fault : PlaceFault) → answers.Unbuilt ≢ answers.Place fault
-unbuilt_places_nothing fault e = cc
-
 -- a request that isn't built
 pub unbuilt : (before now : ShelfFacts) (asked : Asked) (result : Result Ending Refusal) → result ≡ Err (record { answer = answers.Unbuilt; inputs = None }) → ((found : Found) → Comes found asked (Err answers.Unbuilt))
     → Prepared (file_of asked) (λ found. Comes found asked) before now result
@@ -217,13 +216,38 @@ unbuilt before now asked result same is =
       found = found;
       is_found = shelf_is_found before now (file_of asked);
       finishes = inr (is found);
-      named = names_early found answers.Unbuilt unbuilt_places_nothing;
+      named = names_early found answers.Unbuilt refl;
     })
 
+-- a load, which reads nothing
+abbrev nothing_found : Found
+nothing_found = record { circuit = None; trap = None; schedule = None }
+
+abbrev load_stages : ℕ → Found → Result Work Answer → Type 0
+load_stages seed found = Is (Ok (loaded seed))
+
+load_finishes : (seed : ℕ) (result : Result Ending Refusal) → IfOk result (IsLoaded seed) → IfErr result (λ (refusal : Refusal). refusal ≡ record { answer = answers.NoMemory; inputs = None })
+    → Finishes (load_stages seed nothing_found) (answer_in result)
+load_finishes seed (Ok ending) ok err = record { work = loaded seed; is = refl; ends = ok }
+load_finishes seed (Err refusal) ok err = inl (ap (λ (r : Refusal). r.answer) err)
+
+load_names : (result : Result Ending Refusal) → IfErr result (λ (refusal : Refusal). refusal ≡ record { answer = answers.NoMemory; inputs = None }) → Names nothing_found result
+load_names (Ok ending) err = names_ok nothing_found ending
+load_names (Err refusal) err = subst (λ (r : Refusal). Names nothing_found (Err r)) (sym err) (names_early nothing_found answers.NoMemory refl)
+
+pub load_prepared : (before now : ShelfFacts) (seed : ℕ) (schedule : List ℕ) (result : Result Ending Refusal) → IfOk result (IsLoaded seed)
+    → IfErr result (λ (refusal : Refusal). refusal ≡ record { answer = answers.NoMemory; inputs = None }) → Prepared (file_of (load seed schedule)) (λ found. Comes found (load seed schedule)) before now result
+load_prepared before now seed schedule result ok err = record {
+  found = nothing_found;
+  is_found = record { circuit = refl; trap = refl; schedule = refl };
+  finishes = load_finishes seed result ok err;
+  named = load_names result err;
+}
+
 -- the names of what was read, for the line of a placement
-pub has_names : (found : Found) (refusal : Refusal) → ((fault : PlaceFault) → refusal.answer ≡ answers.Place fault → HasInputs found refusal) → HasNames found refusal.answer (names_of refusal.inputs)
-has_names found refusal named fault place =
-    let all = named fault place in
+pub has_names : (found : Found) (refusal : Refusal) → (IsTrue (cites_names refusal.answer) → HasInputs found refusal) → HasNames found refusal.answer (names_of refusal.inputs)
+has_names found refusal named cites =
+    let all = named cites in
     record {
       inputs = all.inputs;
       are = all.are;

@@ -1,7 +1,8 @@
 -- The answer is what the words and the files come to.
 use Rattle.std.proofs.Common.{◌≡◌, ◌≢◌, List, ℕ, Option, Some, None, Result, Ok, Err, refl, sym, ap, ◌∙◌, subst, inl, inr, ◌⊎◌, ◌≤◌, arith}
 use Rattle.std.proofs.Math.Nat.{le_trans}
-use Rattle.std.specs.Prelude.{IsTrue}
+use Rattle.std.specs.Prelude.{IsTrue, true, false}
+use Rattle.std.proofs.lemmas.Bool.{false≢true}
 use Rattle.std.specs.Option.{option_and_then, ok_or}
 use Rattle.qc_base.specs.Causes.{Rose}
 use Rattle.qc_base.specs.Shelf.{Contents, ShelfFacts, SameCounts, OnlyReads}
@@ -9,18 +10,18 @@ use Rattle.qc_base.specs.Sink.{Took, TookPart}
 use Rattle.request_words.specs.declared.file.File.{File}
 use Rattle.request_words.specs.declared.file.File.TheVariants as files
 use Rattle.request_words.specs.Request.{Asked, compile, check, verify, report, load, request_of}
-use Rattle.placement.specs.declared.fault.PlaceFault.{PlaceFault}
-use Rattle.run_answers.specs.Answer.{fault_line}
+use Rattle.run_answers.specs.Answer.{cites_names, fault_line}
 use Rattle.run_answers.specs.declared.answer.Answer.{Answer}
 use Rattle.run_answers.specs.declared.answer.Answer.TheVariants as answers
 use Rattle.schedule_play.proofs.Verdicts as verdicts
 use Rattle.verify_core.proofs.Judging.{judged_once}
 use Rattle.step_rules.specs.declared.action.Action.{Action}
-use Rattle.step_rules.specs.Setting.{SettingValue}
-use Rattle.qccd.specs.Work.{Work, judged, reported}
+use Rattle.step_rules.specs.Setting.{SettingValue, setting_of}
+use Rattle.greedy_router.proofs.RoomAnswers.{one_answer as one_room}
+use Rattle.qccd.specs.Work.{Work, judged, reported, loaded}
 use Rattle.qccd.specs.Stages.{Is}
 use Rattle.qccd.specs.Found.{Found, name_in, put_name, held, IsFoundUnder, IsFound, FailsToRead, FailsToPut}
-use Rattle.qccd.specs.Prepare.{bytes_of, planned, JudgedFor, Comes, Prepares}
+use Rattle.qccd.specs.Prepare.{bytes_of, placed, JudgedFor, Comes, Prepares}
 use Rattle.qccd.specs.declared.ending.Ending.{Ending}
 use Rattle.qccd.specs.Run.{SinkFacts, Devices, Holds, KeepsFiles, IsWhole, FailedToPut, FailedToWrite, IsQuiet, IsDone, Concludes, KeepsCounts, NoneFailed, Tells, Runs, answer_to}
 use Rattle.qccd.specs.Preparing.{IsFinished, names_of}
@@ -38,12 +39,13 @@ judged-one work found = then-one _ _ (inputs_of-one found.circuit found.trap)
     (λ inputs. then-one _ _ (fixed-one (bytes_of files.Schedule found.schedule)) (λ bytes. as-one _ _ (judged_once verdicts.one_verdict verdicts.not_both inputs.trap inputs.circuit bytes)))
 
 comes-one : (found : Found) (asked : Asked) → IsOne (Comes found asked)
-comes-one found (compile circuit trap rule None) = then-one _ _ (inputs_of-one found.circuit found.trap) (λ inputs. fixed-one (planned rule inputs))
+comes-one found (compile circuit trap rule None) = then-one _ _ (inputs_of-one found.circuit found.trap) (λ inputs. then-one _ _ (fixed-one (placed rule inputs))
+    (λ placement. as-one _ _ (one_room (setting_of inputs.trap inputs.circuit placement))))
 comes-one found (compile circuit trap rule (Some exact)) = fixed-one (Err answers.Unbuilt)
 comes-one found (check circuit trap schedule) = judged-one judged found
 comes-one found (verify circuit trap schedule cert) = fixed-one (Err answers.Unbuilt)
 comes-one found (report circuit trap schedule) = judged-one reported found
-comes-one found (load seed schedule) = fixed-one (Err answers.Unbuilt)
+comes-one found (load seed schedule) = fixed-one (Ok (loaded seed))
 
 pub prepares-one : (found : Found) (words : List (List ℕ)) → IsOne (Prepares found words)
 prepares-one found words = then-one _ _ (fixed-one (ok_or (request_of words) answers.Usage)) (comes-one found)
@@ -239,9 +241,9 @@ found_later names found before middle now later is = record {
   schedule = found_under_later (names files.Schedule) found.schedule before middle now later is.schedule;
 }
 
-no_line_of_place : (answer : Answer) (fault : PlaceFault) → (answer ≡ answers.Ok) ⊎ (answer ≡ answers.WriteFault) → answer ≢ answers.Place fault
-no_line_of_place answer fault (inl ok) place = cc
-no_line_of_place answer fault (inr cut) place = cc
+cites_none : (answer : Answer) → (answer ≡ answers.Ok) ⊎ (answer ≡ answers.WriteFault) → IsTrue (cites_names answer) → ⊥
+cites_none answer (inl ok) cites = let is : false ≡ true = subst (λ (a : Answer). IsTrue (cites_names a)) ok cites in false≢true is
+cites_none answer (inr cut) cites = let is : false ≡ true = subst (λ (a : Answer). IsTrue (cites_names a)) cut cites in false≢true is
 
 -- the end of a run that came to work, and what was before
 pub record CameToWork (words : List (List ℕ)) (before middle now : Devices) (ending : Ending) (answer : Answer) : Type 0 where
@@ -260,7 +262,7 @@ ran_ok words before middle now ending answer came told = record {
   is_found = found_later (name_in words) came.found before.shelf middle.shelf now.shelf came.finished.files.later came.is_found;
   concludes = concludes_ok came.found words ending before middle now answer came.done came.reads came.counts came.out came.finished;
   names = names_of None;
-  named = λ fault place. absurd (no_line_of_place answer fault came.finished.either place);
+  named = λ cites. absurd (cites_none answer came.finished.either cites);
   told = told;
 }
 

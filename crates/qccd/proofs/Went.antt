@@ -1,11 +1,11 @@
 -- What stages went through that came to a value.
 use Rattle.std.proofs.Common.{◌≡◌, List, ℕ, Option, Some, None, Result, Ok, Err, refl, ap, ◌∙◌, subst}
-use Rattle.std.specs.Prelude.{Bool, true, false, if◌then◌else◌}
 use Rattle.std.specs.Option.{ok_or}
 use Rattle.qc_base.specs.declared.ids.Qubit.{Qubit}
-use Rattle.circuit_core.specs.Circuit.{CircuitValue, qubit_count}
+use Rattle.circuit_core.specs.Circuit.{CircuitValue}
 use Rattle.trap_model.specs.Trap.{TrapValue}
-use Rattle.step_rules.specs.Setting.{setting_of}
+use Rattle.step_rules.specs.Setting.{SettingValue, setting_of}
+use Rattle.greedy_router.specs.declared.has_room.RoomFault.{RoomFault}
 use Rattle.placement.specs.declared.fault.PlaceFault.{PlaceFault}
 use Rattle.placement.specs.declared.rule.PlaceRule.{PlaceRule}
 use Rattle.placement.specs.Placing.{Table, place_by}
@@ -16,7 +16,7 @@ use Rattle.qccd.specs.declared.inputs.Inputs.{Inputs}
 use Rattle.qccd.specs.Work.{Work, make}
 use Rattle.qccd.specs.Stages.{GoesOn, Then}
 use Rattle.qccd.specs.Found.{Found}
-use Rattle.qccd.specs.Prepare.{CircuitOf, TrapOf, inputs_of, serves, from_placement, planned, Comes, Prepares}
+use Rattle.qccd.specs.Prepare.{CircuitOf, TrapOf, inputs_of, or_refuse, as_routed, Planned as Plans, Comes, Prepares}
 
 -- the value of a first stage, from which the next came to a value too
 pub record Went {X Y : Type 0} (first : Result X Answer → Type 0) (next : X → Result Y Answer → Type 0) (y : Y) : Type 0 where
@@ -52,28 +52,18 @@ pub record Planned (found : Found) (rule : PlaceRule) (work : Work) : Type 0 whe
   pub circuit_is : CircuitOf found.circuit (Ok circuit)
   pub trap_is : TrapOf found.trap (Ok (trap, labels))
   pub placement_is : place_by trap circuit rule labels ≡ Ok placement
-  pub served : serves trap.zones (qubit_count circuit) ≡ true
   pub work_is : work ≡ make (setting_of trap circuit placement)
-
--- what was routed
-pub record Routed (inputs : Inputs) (placed : Result (List (List Qubit)) PlaceFault) (work : Work) : Type 0 where
-  pub placement : List (List Qubit)
-  pub placed_is : placed ≡ Ok placement
-  pub served : serves inputs.trap.zones (qubit_count inputs.circuit) ≡ true
-  pub work_is : work ≡ make (setting_of inputs.trap inputs.circuit placement)
 
 same_work : (a b : Work) → ◌≡◌ {A = Result Work Answer} (Ok a) (Ok b) → a ≡ b
 same_work a b e = cc
 
-served_by : (b : Bool) (work made : Work) → Ok work ≡ (if b then Ok made else Err answers.Unbuilt) → (b ≡ true) × (work ≡ made)
-served_by true work made e = (refl, same_work work made e)
-served_by false work made e = absurd cc
+made_by : (setting : SettingValue) (judgement : Result (Unit {0}) RoomFault) (work : Work) → Ok work ≡ as_routed setting judgement → work ≡ make setting
+made_by setting (Ok there) work e = same_work work (make setting) e
+made_by setting (Err fault) work e = absurd cc
 
-routed_from : (inputs : Inputs) (placed : Result (List (List Qubit)) PlaceFault) (work : Work) → Ok work ≡ from_placement inputs placed → Routed inputs placed work
-routed_from inputs (Ok placement) work e =
-    let parts = served_by (serves inputs.trap.zones (qubit_count inputs.circuit)) work (make (setting_of inputs.trap inputs.circuit placement)) e in
-    record { placement = placement; placed_is = refl; served = parts.0; work_is = parts.1 }
-routed_from inputs (Err fault) work e = absurd cc
+placed_as : (said : Result (List (List Qubit)) PlaceFault) (placement : List (List Qubit)) → Ok placement ≡ or_refuse answers.Place said → said ≡ Ok placement
+placed_as (Ok other) placement e = cc
+placed_as (Err fault) placement e = absurd cc
 
 same_inputs : (a b : Inputs) → ◌≡◌ {A = Result Inputs Answer} (Ok a) (Ok b) → a ≡ b
 same_inputs a b e = cc
@@ -85,16 +75,15 @@ planned_by found circuit_name trap_name rule work comes =
     let second = went _ _ whole.x first.goes_on in
     let inputs : Inputs = inputs_of first.x second.x in
     let same : whole.x ≡ inputs = same_inputs whole.x inputs second.goes_on in
-    let plan : Ok work ≡ planned rule inputs = subst (λ (i : Inputs). Ok work ≡ planned rule i) same whole.goes_on in
-    let made = routed_from inputs (place_by inputs.trap inputs.circuit rule inputs.labels) work plan in
+    let plan : Plans rule inputs (Ok work) = subst (λ (i : Inputs). Plans rule i (Ok work)) same whole.goes_on in
+    let made = went _ _ work plan in
     record {
       circuit = first.x;
       trap = second.x.0;
       labels = second.x.1;
-      placement = made.placement;
+      placement = made.x;
       circuit_is = first.is;
       trap_is = second.is;
-      placement_is = made.placed_is;
-      served = made.served;
-      work_is = made.work_is;
+      placement_is = placed_as (place_by inputs.trap inputs.circuit rule inputs.labels) made.x made.is;
+      work_is = made_by (setting_of inputs.trap inputs.circuit made.x) made.goes_on.judgement work made.goes_on.outcome_is;
     }

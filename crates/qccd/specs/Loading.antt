@@ -1,5 +1,5 @@
 -- ---- working notions of private functions: stages that read files, and what they hand on
-use Rattle.std.specs.Prelude.{◌≡◌, ◌≢◌, ℕ, List, ◌⊎◌, Option, Some, None, Result, Ok, Err}
+use Rattle.std.specs.Prelude.{◌≡◌, ◌≢◌, ℕ, List, ◌⊎◌, false, Option, Some, None, Result, Ok, Err}
 use Rattle.qc_base.specs.Causes.{Rose}
 use Rattle.qc_base.specs.Shelf.{ShelfFacts, SameCounts}
 use Rattle.qasm_read.specs.declared.fault.QasmFault.{QasmFault}
@@ -10,8 +10,11 @@ use Rattle.trap_read.specs.declared.fault.TrapText.{TrapText}
 use Rattle.trap_read.specs.declared.fault.TrapText.TheVariants as trap_faults
 use Rattle.placement.specs.declared.fault.PlaceFault.{PlaceFault}
 use Rattle.placement.specs.declared.fault.PlaceFault.TheVariants as place_faults
+use Rattle.greedy_router.specs.declared.has_room.RoomFault.{RoomFault}
+use Rattle.greedy_router.specs.declared.has_room.RoomFault.TheVariants as room_faults
 use Rattle.request_words.specs.declared.file.File.{File}
 use Rattle.request_words.specs.declared.file.File.TheVariants.{Circuit, Trap, Schedule}
+use Rattle.run_answers.specs.Answer.{cites_names}
 use Rattle.run_answers.specs.declared.answer.Answer.{Answer}
 use Rattle.run_answers.specs.declared.answer.Answer.TheVariants as answers
 use Rattle.qccd.specs.declared.inputs.Inputs.{Inputs}
@@ -37,6 +40,10 @@ abbrev pub place_refusal : PlaceFault → Answer
 place_refusal place_faults.NoMemory = answers.NoMemory
 place_refusal fault = answers.Place fault
 
+abbrev pub room_refusal : RoomFault → Answer
+room_refusal room_faults.NoMemory = answers.NoMemory
+room_refusal fault = answers.Room fault
+
 -- an answer that comes before anything is put or written
 pub record IsRefusal (answer : Answer) : Type 0 where
   pub ok : answer ≢ answers.Ok
@@ -47,10 +54,10 @@ pub record IsOfRequest (answer : Answer) : Type 0 where
   pub refusal : IsRefusal answer
   pub usage : answer ≢ answers.Usage
 
--- the same, and none of a placement
+-- the same, with a line that cites no names
 pub record IsOfFiles (answer : Answer) : Type 0 where
   pub request : IsOfRequest answer
-  pub place : (fault : PlaceFault) → answer ≢ answers.Place fault
+  pub plain : cites_names answer ≡ false
 
 -- the same, and no fault of a device
 pub record IsOfContent (answer : Answer) : Type 0 where

@@ -1,19 +1,19 @@
 -- What the words and the files come to: work to do, or a refusal.
-use Rattle.std.specs.Prelude.{ℕ, ◌+◌, ◌^◌, nat_le, Bool, false, ◌&&◌, List, [], ◌∷◌, length, Option, Some, None, Result, Ok, Err, if◌then◌else◌}
+use Rattle.std.specs.Prelude.{ℕ, ◌^◌, nat_le, List, length, Option, Some, None, Result, Ok, Err, if◌then◌else◌}
 use Rattle.std.specs.Option.{ok_or, option_map_or}
 use Rattle.qc_base.specs.declared.ids.Qubit.{Qubit}
-use Rattle.circuit_core.specs.Circuit.{CircuitValue, qubit_count}
+use Rattle.circuit_core.specs.Circuit.{CircuitValue}
 use Rattle.qasm_read.specs.declared.statement.Placed.{Placed}
 use Rattle.qasm_read.specs.Read.{IsReading}
 use Rattle.gate_expand.specs.Program.{expanded}
 use Rattle.trap_model.specs.Trap.{TrapValue}
-use Rattle.trap_model.specs.declared.parts.ZonePart.{ZonePart}
 use Rattle.trap_read.specs.TrapFile.{trap_of}
 use Rattle.placement.specs.declared.rule.PlaceRule.{PlaceRule}
-use Rattle.placement.specs.declared.fault.PlaceFault.{PlaceFault}
+use Rattle.greedy_router.specs.declared.has_room.RoomFault.{RoomFault}
+use Rattle.greedy_router.specs.Room.{JudgesRoom}
+use Rattle.step_rules.specs.declared.action.Action.{Action}
 use Rattle.placement.specs.Placing.{Table, place_by}
 use Rattle.step_rules.specs.Setting.{SettingValue, setting_of}
-use Rattle.step_rules.specs.declared.action.Action.{Action}
 use Rattle.verify_core.specs.declared.judge.Checked.{Checked}
 use Rattle.verify_core.specs.Judging.{Judges}
 use Rattle.verify_core.specs.declared.fault.CheckFault.{CheckFault}
@@ -24,7 +24,7 @@ use Rattle.request_words.specs.Request.{Asked, compile, check, verify, report, l
 use Rattle.run_answers.specs.declared.answer.Answer.{Answer}
 use Rattle.run_answers.specs.declared.answer.Answer.TheVariants as answers
 use Rattle.qccd.specs.declared.inputs.Inputs.{Inputs}
-use Rattle.qccd.specs.Work.{Work, make, judged, reported}
+use Rattle.qccd.specs.Work.{Work, make, judged, reported, loaded}
 use Rattle.qccd.specs.Stages.{Then, Is, As}
 use Rattle.qccd.specs.Found.{Found}
 
@@ -75,23 +75,21 @@ InputsOf circuit_file trap_file = Then (CircuitOf circuit_file) (λ circuit. The
 
 -- ---- a compilation
 
--- one zone that has all abilities, and two free places beside these qubits
-abbrev pub serves : List ZonePart → ℕ → Bool
-serves [] qubits = false
-serves (zone ∷ []) qubits = zone.one && zone.two && zone.read && nat_le (qubits + 2) zone.capacity
-serves (zone ∷ other ∷ zones) qubits = false
+-- the placement by the rule
+abbrev pub placed : PlaceRule → Inputs → Result (List (List Qubit)) Answer
+placed rule inputs = or_refuse answers.Place (place_by inputs.trap inputs.circuit rule inputs.labels)
 
--- a schedule is made on such a trap; other traps aren't built yet
-abbrev pub routed : SettingValue → Result Work Answer
-routed setting = if serves setting.trap.zones (qubit_count setting.circuit) then Ok (make setting) else Err answers.Unbuilt
+-- a schedule is made where there is room
+abbrev pub as_routed : SettingValue → Result (Unit {0}) RoomFault → Result Work Answer
+as_routed setting (Ok there) = Ok (make setting)
+as_routed setting (Err fault) = Err (answers.Room fault)
 
--- the placement by the rule, and the work from there
-abbrev pub from_placement : Inputs → Result (List (List Qubit)) PlaceFault → Result Work Answer
-from_placement inputs (Ok placement) = routed (setting_of inputs.trap inputs.circuit placement)
-from_placement inputs (Err fault) = Err (answers.Place fault)
+abbrev pub Routed : SettingValue → Result Work Answer → Type 0
+Routed setting = As (JudgesRoom setting) (as_routed setting)
 
-abbrev pub planned : PlaceRule → Inputs → Result Work Answer
-planned rule inputs = from_placement inputs (place_by inputs.trap inputs.circuit rule inputs.labels)
+-- the placement, and then the work from there
+abbrev pub Planned : PlaceRule → Inputs → Result Work Answer → Type 0
+Planned rule inputs = Then (Is (placed rule inputs)) (λ placement. Routed (setting_of inputs.trap inputs.circuit placement))
 
 -- ---- a check
 
@@ -120,27 +118,27 @@ JudgedFor work found = Then (InputsOf found.circuit found.trap) (JudgedOf work f
 
 -- ---- all commands
 
--- what each request comes to; exact mode and the other commands aren't built yet
+-- what each request comes to; exact mode isn't built yet
 abbrev pub Comes : Found → Asked → Result Work Answer → Type 0
-Comes found (compile circuit trap rule None) = Then (InputsOf found.circuit found.trap) (λ inputs. Is (planned rule inputs))
+Comes found (compile circuit trap rule None) = Then (InputsOf found.circuit found.trap) (Planned rule)
 Comes found (compile circuit trap rule (Some search)) = Is (Err answers.Unbuilt)
 Comes found (check circuit trap schedule) = JudgedFor judged found
 Comes found (verify circuit trap schedule cert) = Is (Err answers.Unbuilt)
 Comes found (report circuit trap schedule) = JudgedFor reported found
-Comes found (load seed schedule) = Is (Err answers.Unbuilt)
+Comes found (load seed schedule) = Is (Ok (loaded seed))
 
 -- The words ask for something, and the files that it reads are read and judged one after another.
 abbrev pub Prepares : Found → List (List ℕ) → Result Work Answer → Type 0
 Prepares found words = Then (Is (ok_or (request_of words) answers.Usage)) (Comes found)
 
--- the refusal that a request is by itself, whatever the files hold: exact mode and the other commands aren't built yet
+-- the refusal that a request is by itself, whatever the files hold: exact mode isn't built yet
 abbrev pub refused_request : Asked → Option Answer
 refused_request (compile circuit trap rule None) = None
 refused_request (compile circuit trap rule (Some search)) = Some answers.Unbuilt
 refused_request (check circuit trap schedule) = None
 refused_request (verify circuit trap schedule cert) = Some answers.Unbuilt
 refused_request (report circuit trap schedule) = None
-refused_request (load seed schedule) = Some answers.Unbuilt
+refused_request (load seed schedule) = None
 
 -- the refusal that words are by themselves
 abbrev pub refused_words : List (List ℕ) → Option Answer

@@ -1,14 +1,14 @@
 -- ---- working notions of private functions: what a command comes to before anything is written
-use Rattle.std.specs.Prelude.{◌≡◌, ℕ, List, ◌⊎◌, Option, None, Some, Result, Ok, Err}
+use Rattle.std.specs.Prelude.{◌≡◌, ℕ, List, ◌⊎◌, Option, None, Some, Result, Ok, Err, IsTrue}
 use Rattle.std.specs.Option.{option_map}
 use Rattle.std.specs.Result.{result_map_both}
 use Rattle.qc_base.specs.Shelf.{ShelfFacts, SameCounts}
-use Rattle.placement.specs.declared.fault.PlaceFault.{PlaceFault}
 use Rattle.step_rules.specs.declared.action.Action.{Action}
 use Rattle.step_rules.specs.Setting.{SettingValue}
 use Rattle.request_words.specs.declared.file.File.{File}
 use Rattle.run_answers.specs.declared.answer.Answer.{Answer}
 use Rattle.run_answers.specs.declared.answer.Answer.TheVariants as answers
+use Rattle.run_answers.specs.Answer.{cites_names}
 use Rattle.run_answers.specs.Names.{Names}
 use Rattle.qccd.specs.declared.inputs.Inputs.{Inputs}
 use Rattle.qccd.specs.declared.ending.Ending.{Ending}
@@ -25,7 +25,7 @@ use Rattle.qccd.specs.Run.{Devices, KeepsFiles, IsWhole, FailedToPut, FailedToWr
 abbrev pub names_of : Option Inputs → Names
 names_of inputs = record { circuit = option_map (λ (i : Inputs). i.circuit) inputs; trap = option_map (λ (i : Inputs). i.trap) inputs }
 
--- a refusal of a placement comes with what the files describe
+-- a refusal whose line cites names comes with what the files describe
 pub record HasInputs (found : Found) (refusal : Refusal) : Type 0 where
   pub inputs : Inputs
   pub is : refusal.inputs ≡ Some inputs
@@ -45,7 +45,7 @@ pub record Prepared (names : File → Option (List ℕ)) (stages : Found → Res
   pub found : Found
   pub is_found : IsFound before now names found
   pub finishes : Finishes (stages found) (answer_in result)
-  pub named : (refusal : Refusal) (fault : PlaceFault) → result ≡ Err refusal → refusal.answer ≡ answers.Place fault → HasInputs found refusal
+  pub named : (refusal : Refusal) → result ≡ Err refusal → IsTrue (cites_names refusal.answer) → HasInputs found refusal
 
 -- the work with a schedule that plays
 abbrev pub as_work : Saying → SettingValue → List (List Action) → Work

@@ -1,9 +1,13 @@
 -- What is to be done once words and files are understood, and what is written then.
-use Rattle.std.specs.Prelude.{◌≡◌, List, ℕ, None}
+use Rattle.std.specs.Prelude.{◌≡◌, List, ℕ, Some, None, Ok}
+use Rattle.qc_base.specs.declared.ids.Qubit.{Qubit}
+use Rattle.placement.specs.declared.rule.PlaceRule.TheVariants.{Declared}
+use Rattle.placement.specs.Placing.{place_by}
 use Rattle.step_rules.specs.declared.action.Action.{Action}
-use Rattle.step_rules.specs.Setting.{SettingValue}
+use Rattle.step_rules.specs.Setting.{SettingValue, setting_of}
 use Rattle.step_rules.specs.Play.{Plays}
-use Rattle.schedule_report.specs.Lines.{legal_line}
+use Rattle.load_setup.specs.Setup.{generated_trap, generated_circuit}
+use Rattle.schedule_report.specs.Lines.{legal_line, load_lines}
 use Rattle.schedule_report.specs.Report.{report_text}
 use Rattle.step_rules.specs.Tight.{IsTight}
 use Rattle.schedule_text.specs.Text.{schedule_text}
@@ -11,11 +15,13 @@ use Rattle.run_answers.specs.declared.answer.Answer.{Answer}
 use Rattle.run_answers.specs.declared.answer.Answer.TheVariants as answers
 use Rattle.qccd.specs.declared.ending.Ending.{Ending}
 
--- a schedule is to be made for the setting; or these steps were judged and play, and are to be counted, or reported
+-- a schedule is to be made for the setting; these steps were judged and play, and are to be counted, or reported; or a
+-- load is to be made from a seed
 pub data Work : Type 0 where
   make : SettingValue → Work
   judged : SettingValue → List (List Action) → Work
   reported : SettingValue → List (List Action) → Work
+  loaded : ℕ → Work
 
 -- the text is that of a schedule that obeys every rule of the trap and performs the circuit
 pub record IsTextOf (setting : SettingValue) (text : List ℕ) : Type 0 where
@@ -37,9 +43,20 @@ pub record IsScheduleWritten (setting : SettingValue) (ending : Ending) : Type 0
   pub schedule : IsTightTextOf setting ending.text
   pub none : ending.put ≡ None
 
+-- The text of a schedule of the load's circuit on its trap is put, from the placement in declared order; it plays and
+-- wastes no step. The lines of the load and that schedule are written.
+pub record IsLoaded (seed : ℕ) (ending : Ending) : Type 0 where
+  pub placement : List (List Qubit)
+  pub placement_is : place_by generated_trap (generated_circuit seed) Declared None ≡ Ok placement
+  pub put : List ℕ
+  pub put_is : ending.put ≡ Some put
+  pub schedule : IsTightTextOf (setting_of generated_trap (generated_circuit seed) placement) put
+  pub text_is : ending.text ≡ load_lines seed 2000 schedule.is.schedule
+
 -- the work may end in this answer, with this put and written
 abbrev pub Ends : Work → Answer → Ending → Type 0
 Ends (make setting) answers.Ok ending = IsScheduleWritten setting ending
 Ends (judged setting steps) answers.Ok ending = ending ≡ written (legal_line steps)
 Ends (reported setting steps) answers.Ok ending = ending ≡ written (report_text setting.trap steps)
+Ends (loaded seed) answers.Ok ending = IsLoaded seed ending
 Ends work answer ending = ⊥

@@ -1,5 +1,5 @@
 -- The status and the line of each answer.
-use Rattle.std.specs.Prelude.{ℕ, List, [], ◌∷◌, codes, decimal}
+use Rattle.std.specs.Prelude.{ℕ, Bool, true, false, List, [], ◌∷◌, codes, decimal}
 use Rattle.request_words.specs.declared.file.File.{File}
 use Rattle.request_words.specs.declared.file.File.TheVariants as files
 use Rattle.run_answers.specs.declared.answer.Answer.{Answer}
@@ -9,6 +9,7 @@ use Rattle.run_answers.specs.Line.{line_text}
 use Rattle.run_answers.specs.CircuitLines.{qasm_said, expand_said}
 use Rattle.run_answers.specs.TrapLines.{trap_said}
 use Rattle.run_answers.specs.PlaceLines.{place_said}
+use Rattle.run_answers.specs.RoomLines.{room_said}
 use Rattle.run_answers.specs.ScheduleLines.{play_said}
 
 -- the status that the program ends with
@@ -21,6 +22,7 @@ status_of (answers.Qasm fault) = 4
 status_of (answers.Expand fault) = 4
 status_of (answers.Trap fault) = 5
 status_of (answers.Place fault) = 6
+status_of (answers.Room fault) = 6
 status_of (answers.Text line) = 11
 status_of (answers.Illegal fault) = 11
 status_of answers.WriteFault = 10
@@ -43,11 +45,18 @@ said names (answers.Qasm fault) = qasm_said fault
 said names (answers.Expand fault) = expand_said fault
 said names (answers.Trap fault) = trap_said fault
 said names (answers.Place fault) = place_said names fault
+said names (answers.Room fault) = room_said names fault
 said names (answers.Text line) = codes "schedule line " ∷ decimal line ∷ []
 said names (answers.Illegal fault) = play_said fault
 said names answers.WriteFault = codes "cannot write" ∷ []
 said names answers.NoMemory = codes "no memory" ∷ []
 said names answers.Unbuilt = codes "not built" ∷ []
+
+-- the line of the answer says names of the circuit or the trap that were read
+abbrev pub cites_names : Answer → Bool
+cites_names (answers.Place fault) = true
+cites_names (answers.Room fault) = true
+cites_names answer = false
 
 -- the line of an answer, none where all went well
 abbrev pub fault_line : Names → Answer → List ℕ

@@ -9,9 +9,11 @@ use crate::circuit_lines::{expand_line, qasm_line};
 use crate::line::Line;
 use crate::names::Names;
 use crate::place_lines::place_line;
+use crate::room_lines::room_line;
 use crate::schedule_lines::play_line;
 use crate::trap_lines::trap_line;
 use gate_expand::ExpandFault;
+use greedy_router::RoomFault;
 use placement::PlaceFault;
 use qasm_read::QasmFault;
 use request_words::File;
@@ -37,6 +39,8 @@ pub enum Answer {
     Trap(TrapText),
     /// The rule gives no placement.
     Place(PlaceFault),
+    /// The trap has no room for the circuit.
+    Room(RoomFault),
     /// The first bad line of the schedule's file, counted from 1.
     Text { line: u64 },
     /// The first fault of the schedule.
@@ -60,7 +64,7 @@ impl Answer {
             Answer::ReadFault { .. } | Answer::Long { .. } => 3,
             Answer::Qasm(_) | Answer::Expand(_) => 4,
             Answer::Trap(_) => 5,
-            Answer::Place(_) => 6,
+            Answer::Place(_) | Answer::Room(_) => 6,
             Answer::WriteFault => 10,
             Answer::Text { .. } | Answer::Illegal(_) => 11,
             Answer::NoMemory => 12,
@@ -81,6 +85,7 @@ impl Answer {
             Answer::Expand(fault) => expand_line(fault),
             Answer::Trap(fault) => trap_line(fault),
             Answer::Place(fault) => place_line(fault, names),
+            Answer::Room(fault) => room_line(fault, names),
             Answer::Text { line } => Line::start(b"schedule line ").number(*line),
             Answer::Illegal(fault) => play_line(fault),
             Answer::WriteFault => Line::start(b"cannot write"),

@@ -7,6 +7,7 @@ mod line;
 mod names;
 mod piece;
 mod place_lines;
+mod room_lines;
 mod schedule_lines;
 #[cfg(test)]
 mod tests;

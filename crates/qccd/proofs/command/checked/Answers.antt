@@ -32,7 +32,7 @@ returns-in-Err-judged_file-clause-counts g c =
 pub returns-in-Err-clause-prepared : goal.returns-in-Err-clause-prepared
 returns-in-Err-clause-prepared g c =
     subst (λ (r : Refusal). CheckPrepared (as_work c.args.saying) (g.S.Shelf.facts c.args.shelf.now) (g.S.Shelf.facts c.load_inputs.new.shelf) c.args.circuit.now c.args.trap.now c.args.schedule.now (Err r)) (sym c.early.ensures)
-    (check_early (as_work c.args.saying) (g.S.Shelf.facts c.args.shelf.now) (g.S.Shelf.facts c.load_inputs.new.shelf) c.args.circuit.now c.args.trap.now c.args.schedule.now c.in-Err.answer c.in-Err.ensures.loads c.in-Err.ensures.refusal.place)
+    (check_early (as_work c.args.saying) (g.S.Shelf.facts c.args.shelf.now) (g.S.Shelf.facts c.load_inputs.new.shelf) c.args.circuit.now c.args.trap.now c.args.schedule.now c.in-Err.answer c.in-Err.ensures.loads c.in-Err.ensures.refusal.plain)
 
 pub returns-in-Err-clause-counts : goal.returns-in-Err-clause-counts
 returns-in-Err-clause-counts g c =

@@ -1,4 +1,4 @@
-use Rattle.std.proofs.Common.{subst, sym, Err, None, List, ℕ}
+use Rattle.std.proofs.Common.{subst, sym, Err, None}
 use Rattle.request_words.specs.Request.{compile, file_of}
 use Rattle.qccd.specs.declared.command.Refusal.{Refusal}
 use Rattle.qccd.specs.declared.ending.Ending.{Ending}
@@ -20,7 +20,7 @@ returns-in-Err-planned-clause-prepared g c =
 pub returns-in-Err-clause-prepared : goal.returns-in-Err-clause-prepared
 returns-in-Err-clause-prepared g c =
     subst (λ (r : Refusal). PlanPrepared (g.S.Shelf.facts c.args.shelf.now) (g.S.Shelf.facts c.load_inputs.new.shelf) c.args.circuit.now c.args.trap.now c.args.rule (Err r)) (sym c.early.ensures)
-    (plan_early (g.S.Shelf.facts c.args.shelf.now) (g.S.Shelf.facts c.load_inputs.new.shelf) c.args.circuit.now c.args.trap.now c.args.rule c.in-Err.answer c.in-Err.ensures.loads c.in-Err.ensures.refusal.place)
+    (plan_early (g.S.Shelf.facts c.args.shelf.now) (g.S.Shelf.facts c.load_inputs.new.shelf) c.args.circuit.now c.args.trap.now c.args.rule c.in-Err.answer c.in-Err.ensures.loads c.in-Err.ensures.refusal.plain)
 
 pub returns-in-Err-clause-counts : goal.returns-in-Err-clause-counts
 returns-in-Err-clause-counts g c =

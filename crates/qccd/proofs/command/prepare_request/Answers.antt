@@ -8,7 +8,7 @@ use Rattle.qccd.specs.Prepare.{Comes}
 use Rattle.qccd.specs.declared.ending.Ending.{Ending}
 use Rattle.qccd.specs.Loading.{CountsAll}
 use Rattle.qccd.specs.Preparing.{Prepared, answer_in}
-use Rattle.qccd.proofs.Prepared.{unbuilt}
+use Rattle.qccd.proofs.Prepared.{unbuilt, load_prepared}
 use Rattle.qccd.proofs.command.prepare_request.Goals as goal
 
 pub returns-in-Some-clause-prepared : goal.returns-in-Some-clause-prepared
@@ -39,9 +39,8 @@ returns-in-Report-clause-prepared g c =
 pub returns-in-Load-clause-prepared : goal.returns-in-Load-clause-prepared
 returns-in-Load-clause-prepared g c =
     let facts = g.S.Shelf.facts c.args.shelf.now in
-    let request : Request = requests.Load c.in-Load.seed c.in-Load.schedule in
-    subst (λ (r : Request). Prepared (file_of (asked_of r)) (λ found. Comes found (asked_of r)) facts facts c.unbuilt-in-Load.result) (sym c.in-Load.is)
-    (unbuilt facts facts (asked_of request) c.unbuilt-in-Load.result c.unbuilt-in-Load.ensures (λ found. refl))
+    subst (λ (r : Request). Prepared (file_of (asked_of r)) (λ found. Comes found (asked_of r)) facts facts c.load_of.result) (sym c.in-Load.is)
+    (load_prepared facts facts c.in-Load.seed c.in-Load.schedule.now c.load_of.result c.load_of.ensures.loaded c.load_of.ensures.memory)
 
 pub returns-in-Check-clause-counts : goal.returns-in-Check-clause-counts
 returns-in-Check-clause-counts g c =

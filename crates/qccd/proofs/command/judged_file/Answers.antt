@@ -1,0 +1,15 @@
+use Rattle.request_words.specs.declared.file.File.TheVariants as files
+use Rattle.qccd.specs.Stages.{Is}
+use Rattle.qccd.specs.Prepare.{bytes_of, JudgedIn}
+use Rattle.qccd.specs.Preparing.{as_work}
+use Rattle.qccd.proofs.Stages.{finishes_err}
+use Rattle.qccd.proofs.command.judged_file.Goals as goal
+
+pub returns-in-Err-clause-judges : goal.returns-in-Err-clause-judges
+returns-in-Err-clause-judges g c =
+    let loads = c.in-Err.ensures.loads in
+    record {
+      content = loads.content;
+      is_found = loads.is_found;
+      finishes = finishes_err (Is (bytes_of files.Schedule loads.content)) (JudgedIn (as_work c.args.saying) c.args.inputs.now) c.in-Err.answer loads.reached;
+    }
