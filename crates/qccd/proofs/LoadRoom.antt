@@ -20,7 +20,7 @@ use Rattle.step_rules.specs.Play.{Plays}
 use Rattle.step_rules.specs.Tight.{IsTight}
 use Rattle.schedule_text.specs.Text.{schedule_text}
 use Rattle.schedule_report.specs.Lines.{load_lines}
-use Rattle.qccd.specs.Work.{IsLoaded}
+use Rattle.qccd.specs.Work.{IsLoaded, IsRouted}
 use Rattle.step_rules.specs.Guards.{is_performed, is_able_for}
 use Rattle.placement.specs.declared.fault.PlaceFault.{PlaceFault}
 use Rattle.placement.specs.declared.rule.PlaceRule.TheVariants.{Declared}
@@ -140,10 +140,10 @@ room_of_load seed trap circuit placement t c e =
 
 pub loaded_is : (seed : ℕ) (trap : TrapValue) (circuit : CircuitValue) (placement : List (List Qubit)) (schedule : List (List Action)) (put lines shown : List ℕ)
     → trap ≡ generated_trap → circuit ≡ generated_circuit seed → place_by trap circuit Declared None ≡ Ok placement
-    → Plays (setting_of trap circuit placement) schedule → IsTight (setting_of trap circuit placement) schedule
+    → Plays (setting_of trap circuit placement) schedule → IsTight (setting_of trap circuit placement) schedule → IsRouted (setting_of trap circuit placement) schedule
     → put ≡ schedule_text (setting_of trap circuit placement) schedule → lines ≡ load_lines seed 2000 schedule → shown ≡ lines
     → IsLoaded seed (record { put = Some put; text = shown })
-loaded_is seed trap circuit placement schedule put lines shown t c e plays tight put_is lines_are same =
+loaded_is seed trap circuit placement schedule put lines shown t c e plays tight routed put_is lines_are same =
     let s : setting_of trap circuit placement ≡ setting_of generated_trap (generated_circuit seed) placement = same_setting seed trap circuit placement t c in
     record {
       placement = placement;
@@ -157,6 +157,7 @@ loaded_is seed trap circuit placement schedule put lines shown t c e plays tight
           text_is = put_is ∙ ap (λ (it : SettingValue). schedule_text it schedule) s;
         };
         tight = subst (λ (it : SettingValue). IsTight it schedule) s tight;
+        routed = subst (λ (it : SettingValue). IsRouted it schedule) s routed;
       };
       text_is = same ∙ lines_are;
     }

@@ -1,11 +1,13 @@
 -- What is to be done once words and files are understood, and what is written then.
-use Rattle.std.specs.Prelude.{◌≡◌, List, ℕ, Some, None, Ok}
+use Rattle.std.specs.Prelude.{◌≡◌, List, ℕ, All, Some, None, Ok}
 use Rattle.qc_base.specs.declared.ids.Qubit.{Qubit}
 use Rattle.placement.specs.declared.rule.PlaceRule.TheVariants.{Declared}
 use Rattle.placement.specs.Placing.{place_by}
 use Rattle.step_rules.specs.declared.action.Action.{Action}
 use Rattle.step_rules.specs.Setting.{SettingValue, setting_of}
-use Rattle.step_rules.specs.Play.{Plays}
+use Rattle.step_rules.specs.Play.{Plays, one_at_a_time}
+use Rattle.greedy_router.specs.Serial.{IsGreedy, IsSingle}
+use Rattle.compact.specs.Tightened.{IsRearranged}
 use Rattle.load_setup.specs.Setup.{generated_trap, generated_circuit}
 use Rattle.schedule_report.specs.Lines.{legal_line, load_lines}
 use Rattle.schedule_report.specs.Report.{report_text}
@@ -29,10 +31,21 @@ pub record IsTextOf (setting : SettingValue) (text : List ℕ) : Type 0 where
   pub plays : Plays setting schedule
   pub text_is : text ≡ schedule_text setting schedule
 
--- the same of a schedule that wastes no step
+-- The schedule has the actions of a list that plays one after another, in which single ions travel and each operation
+-- is performed where it is the least ready one whose ions stand together in an able zone, as soon as there is one. Pairs
+-- that conflict keep the list's order by step.
+pub record IsRouted (setting : SettingValue) (schedule : List (List Action)) : Type 0 where
+  pub actions : List Action
+  pub plays : Plays setting (one_at_a_time actions)
+  pub greedy : IsGreedy setting actions
+  pub single : All IsSingle actions
+  pub rearranged : IsRearranged setting actions schedule
+
+-- the same of a schedule that is such a list and wastes no step
 pub record IsTightTextOf (setting : SettingValue) (text : List ℕ) : Type 0 where
   pub is : IsTextOf setting text
   pub tight : IsTight setting is.schedule
+  pub routed : IsRouted setting is.schedule
 
 -- a text that is written, where nothing is put
 abbrev pub written : List ℕ → Ending

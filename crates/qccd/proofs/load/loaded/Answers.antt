@@ -8,4 +8,4 @@ tight_schedule-requires-clause-room c =
 pub returns : goal.returns
 returns c =
     loaded_is c.args.seed c.in_ok-trap.trap c.in_ok-trap.circuit c.in-Ok.placement c.in_ok-schedule.schedule c.in_ok-put.put c.in_ok-lines.lines.items c.from_vec.result
-    c.in_ok-trap.ensures.trap c.in_ok-trap.ensures.circuit c.in-Ok.ensures.answer c.in_ok-schedule.ensures.plays c.in_ok-schedule.ensures.tight c.in_ok-put.ensures c.in_ok-lines.ensures c.from_vec.ensures
+    c.in_ok-trap.ensures.trap c.in_ok-trap.ensures.circuit c.in-Ok.ensures.answer c.in_ok-schedule.ensures.plays c.in_ok-schedule.ensures.tight c.in_ok-schedule.ensures.routed c.in_ok-put.ensures c.in_ok-lines.ensures c.from_vec.ensures
