@@ -33,14 +33,15 @@ use Rattle.placement.specs.Placing.{FitsZones}
 use Rattle.placement.proofs.Placed.{placed as rule_gives_placement}
 use Rattle.verify_core.specs.declared.judge.Checked.{Checked}
 use Rattle.request_words.specs.declared.file.File.TheVariants as files
-use Rattle.request_words.specs.Request.{Asked, compile, check, request_of}
+use Rattle.request_words.specs.Request.{Asked, compile, check, report, request_of}
+use Rattle.run_answers.specs.declared.answer.Answer.{Answer}
 use Rattle.run_answers.specs.declared.answer.Answer.TheVariants as answers
 use Rattle.qccd.specs.declared.inputs.Inputs.{Inputs}
-use Rattle.qccd.specs.Work.{Work, make, judged, IsTightTextOf}
+use Rattle.qccd.specs.Work.{Work, make, judged, reported, IsTightTextOf}
 use Rattle.qccd.specs.Stages.{Is, Then}
 use Rattle.qccd.specs.Found.{Found}
-use Rattle.qccd.specs.Prepare.{bytes_of, or_refuse, CircuitOf, TrapOf, inputs_of, InputsOf, JudgedOf, Comes, Prepares}
-use Rattle.qccd.specs.RoundTrip.{IsJudgedLegal}
+use Rattle.qccd.specs.Prepare.{bytes_of, or_refuse, CircuitOf, TrapOf, inputs_of, InputsOf, JudgedOf, JudgedFor, Comes, Prepares}
+use Rattle.qccd.specs.RoundTrip.{IsAccepted}
 use Rattle.qccd.proofs.Refusals.{labels_fit}
 use Rattle.qccd.proofs.Known.{spelled}
 use Rattle.qccd.proofs.Stages.{then_ok}
@@ -81,10 +82,14 @@ trap_right content file is =
 
 -- ---- the text is read and judged
 
-judged_text : (inputs : Inputs) (placement : List (List Qubit)) (steps : List (List Action)) (text : List ℕ) (content : Option (List ℕ)) → IsTrap inputs.trap → IsCircuit inputs.circuit
+-- the work that a judged schedule comes to
+abbrev WorkOf : Type 0
+WorkOf = SettingValue → List (List Action) → Work
+
+judged_text : (work : WorkOf) (inputs : Inputs) (placement : List (List Qubit)) (steps : List (List Action)) (text : List ℕ) (content : Option (List ℕ)) → IsTrap inputs.trap → IsCircuit inputs.circuit
     → Spells inputs.trap inputs.circuit placement steps text → Plays (setting_of inputs.trap inputs.circuit placement) steps → content ≡ Some text → length text ≤ 2 ^ 30
-    → JudgedOf judged content inputs (Ok (judged (setting_of inputs.trap inputs.circuit placement) steps))
-judged_text inputs placement steps text content t c spells plays there few =
+    → JudgedOf work content inputs (Ok (work (setting_of inputs.trap inputs.circuit placement) steps))
+judged_text work inputs placement steps text content t c spells plays there few =
     let checked : Checked = record { placement = placement; schedule = steps } in
     record {
       given = Ok text;
@@ -99,24 +104,27 @@ judged_text inputs placement steps text content t c spells plays there few =
       };
     }
 
--- the stages of a check, where circuit and trap are found as before
-checked_by : (found : Found) (words : List (List ℕ)) (circuit trap schedule : List ℕ) (inputs : Inputs) (work : Work) → request_of words ≡ Some (check circuit trap schedule)
-    → InputsOf found.circuit found.trap (Ok inputs) → JudgedOf judged found.schedule inputs (Ok work) → Prepares found words (Ok work)
-checked_by found words circuit trap schedule inputs work request is judges =
-    subst (λ (o : Option Asked). Then (Is (ok_or o answers.Usage)) (Comes found) (Ok work)) (sym request)
-    (then_ok (Is (Ok (check circuit trap schedule))) (Comes found) (check circuit trap schedule) (Ok work) refl
-    (then_ok (InputsOf found.circuit found.trap) (JudgedOf judged found.schedule) inputs (Ok work) is judges))
+-- the stages of a request that judges a schedule, where circuit and trap are found as before
+abbrev IsCaseOf : WorkOf → Asked → Type 0
+IsCaseOf work asked = (found : Found) (outcome : Result Work Answer) → JudgedFor work found outcome → Comes found asked outcome
+
+checked_by : (work : WorkOf) (asked : Asked) (found : Found) (words : List (List ℕ)) (inputs : Inputs) (done : Work) → IsCaseOf work asked → request_of words ≡ Some asked
+    → InputsOf found.circuit found.trap (Ok inputs) → JudgedOf work found.schedule inputs (Ok done) → Prepares found words (Ok done)
+checked_by work asked found words inputs done comes request is judges =
+    subst (λ (o : Option Asked). Then (Is (ok_or o answers.Usage)) (Comes found) (Ok done)) (sym request)
+    (then_ok (Is (Ok asked)) (Comes found) asked (Ok done) refl
+    (comes found (Ok done) (then_ok (InputsOf found.circuit found.trap) (JudgedOf work found.schedule) inputs (Ok done) is judges)))
 
 same_setting : (a b : SettingValue) → make a ≡ make b → a ≡ b
 same_setting a b e = cc
 
 -- the text stands as the schedule after the compilation, and circuit and trap as before
-pub judged_legal : (before later : Found) (words check_words : List (List ℕ)) (circuit trap circuit_again trap_again schedule text : List ℕ) (rule : PlaceRule) (setting : SettingValue)
-    → request_of words ≡ Some (compile circuit trap rule None) → request_of check_words ≡ Some (check circuit_again trap_again schedule)
+judged_again : (work : WorkOf) (asked : Asked) (before later : Found) (words check_words : List (List ℕ)) (circuit trap text : List ℕ) (rule : PlaceRule) (setting : SettingValue) → IsCaseOf work asked
+    → request_of words ≡ Some (compile circuit trap rule None) → request_of check_words ≡ Some asked
     → Prepares before words (Ok (make setting)) → IsTightTextOf setting text
     → later.circuit ≡ before.circuit → later.trap ≡ before.trap → later.schedule ≡ Some text → length text ≤ 2 ^ 30
-    → IsJudgedLegal later check_words setting text
-judged_legal before later words check_words circuit trap circuit_again trap_again schedule text rule setting request check_request prepares written same_circuit same_trap there few =
+    → IsAccepted work later check_words setting text
+judged_again work asked before later words check_words circuit trap text rule setting comes request check_request prepares written same_circuit same_trap there few =
     let plan = planned_by before circuit trap rule (make setting) (asked_for before words (compile circuit trap rule None) (make setting) request prepares) in
     let setting_is : setting ≡ setting_of plan.trap plan.circuit plan.placement = same_setting setting (setting_of plan.trap plan.circuit plan.placement) plan.work_is in
     let inputs : Inputs = inputs_of plan.circuit (plan.trap, plan.labels) in
@@ -129,12 +137,28 @@ judged_legal before later words check_words circuit trap circuit_again trap_agai
     let plays = subst (λ (s : SettingValue). Plays s written.is.schedule) setting_is written.is.plays in
     let text_is = written.is.text_is ∙ ap (λ (s : SettingValue). schedule_text s written.is.schedule) setting_is in
     let spells = spelled plan.trap plan.circuit plan.placement written.is.schedule text right.0 placed plays text_is few in
-    let judges = judged_text inputs plan.placement written.is.schedule text later.schedule right.0 well spells plays there few in
+    let judges = judged_text work inputs plan.placement written.is.schedule text later.schedule right.0 well spells plays there few in
     let is = then_ok (CircuitOf later.circuit) (λ circuit. Then (TrapOf later.trap) (λ file. Is (Ok (inputs_of circuit file)))) plan.circuit (Ok inputs) of_circuit
     (then_ok (TrapOf later.trap) (λ file. Is (Ok (inputs_of plan.circuit file))) (plan.trap, plan.labels) (Ok inputs) of_trap refl) in
     record {
       steps = written.is.schedule;
-      judges = subst (λ (s : SettingValue). Prepares later check_words (Ok (judged s written.is.schedule))) (sym setting_is)
-          (checked_by later check_words circuit_again trap_again schedule inputs (judged (setting_of plan.trap plan.circuit plan.placement) written.is.schedule) check_request is judges);
+      judges = subst (λ (s : SettingValue). Prepares later check_words (Ok (work s written.is.schedule))) (sym setting_is)
+          (checked_by work asked later check_words inputs (work (setting_of plan.trap plan.circuit plan.placement) written.is.schedule) comes check_request is judges);
       text_is = written.is.text_is;
     }
+
+pub judged_legal : (before later : Found) (words check_words : List (List ℕ)) (circuit trap circuit_again trap_again schedule text : List ℕ) (rule : PlaceRule) (setting : SettingValue)
+    → request_of words ≡ Some (compile circuit trap rule None) → request_of check_words ≡ Some (check circuit_again trap_again schedule)
+    → Prepares before words (Ok (make setting)) → IsTightTextOf setting text
+    → later.circuit ≡ before.circuit → later.trap ≡ before.trap → later.schedule ≡ Some text → length text ≤ 2 ^ 30
+    → IsAccepted judged later check_words setting text
+judged_legal before later words check_words circuit trap circuit_again trap_again schedule text rule setting =
+    judged_again judged (check circuit_again trap_again schedule) before later words check_words circuit trap text rule setting (λ found outcome is. is)
+
+pub judged_reported : (before later : Found) (words report_words : List (List ℕ)) (circuit trap circuit_again trap_again schedule text : List ℕ) (rule : PlaceRule) (setting : SettingValue)
+    → request_of words ≡ Some (compile circuit trap rule None) → request_of report_words ≡ Some (report circuit_again trap_again schedule)
+    → Prepares before words (Ok (make setting)) → IsTightTextOf setting text
+    → later.circuit ≡ before.circuit → later.trap ≡ before.trap → later.schedule ≡ Some text → length text ≤ 2 ^ 30
+    → IsAccepted reported later report_words setting text
+judged_reported before later words report_words circuit trap circuit_again trap_again schedule text rule setting =
+    judged_again reported (report circuit_again trap_again schedule) before later words report_words circuit trap text rule setting (λ found outcome is. is)
