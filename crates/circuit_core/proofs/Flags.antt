@@ -9,15 +9,15 @@ use Rattle.std.proofs.lemmas.List.Folds.{list_any-append, list_any_at, list_any_
 use Rattle.qc_base.specs.declared.ids.Qubit.{Qubit}
 use Rattle.circuit_core.specs.declared.op.Op.{Op}
 use Rattle.circuit_core.specs.Op.{qubits_of, is_barrier}
-use Rattle.circuit_core.specs.Deciding.{stands, have_common, reached}
+use Rattle.circuit_core.specs.Deciding.{is_listed, have_common, reached}
 use Rattle.circuit_core.specs.QubitSet.{AreFlags, AreBelow}
 use Rattle.circuit_core.proofs.Forcing.{reached_of_both, reached_joined, reached_passed}
 
 pub no_flags : AreFlags (replicate 128 false) []
 no_flags = record { len = refl; each = λ number h. get_or-replicate 128 number false false h }
 
-stands_added : (number : ℕ) (qubits : List Qubit) (qubit : Qubit) → stands number (qubits ++ qubit ∷ []) ≡ (stands number qubits || (eqb qubit.0 number || false))
-stands_added number qubits qubit = list_any-append (λ (q : Qubit). eqb q.0 number) qubits (qubit ∷ [])
+listed_added : (number : ℕ) (qubits : List Qubit) (qubit : Qubit) → is_listed number (qubits ++ qubit ∷ []) ≡ (is_listed number qubits || (eqb qubit.0 number || false))
+listed_added number qubits qubit = list_any-append (λ (q : Qubit). eqb q.0 number) qubits (qubit ∷ [])
 
 or_false : (a b : Bool) → b ≡ false → (a || (b || false)) ≡ a
 or_false true b e = refl
@@ -29,9 +29,9 @@ flag_added flags qubits qubit below are = record {
   len = length-set flags qubit.0 true ∙ are.len;
   each = λ number h. elim (cases_eq number qubit.0) [
     | inl same ↦ ap (λ (n : ℕ). get_or (set flags qubit.0 true) n false) same ∙ get_or-set_same flags qubit.0 true false (omega (arith, are.len))
-        ∙ sym (stands_added number qubits qubit ∙ or_right (stands number qubits) (eqb qubit.0 number || false) (or_left (eqb qubit.0 number) false (eq-eqb qubit.0 number (sym same))))
+        ∙ sym (listed_added number qubits qubit ∙ or_right (is_listed number qubits) (eqb qubit.0 number || false) (or_left (eqb qubit.0 number) false (eq-eqb qubit.0 number (sym same))))
     | inr other ↦ get_or-set_other flags qubit.0 number true false other ∙ are.each number h
-        ∙ sym (stands_added number qubits qubit ∙ or_false (stands number qubits) (eqb qubit.0 number) (ne_eqb qubit.0 number (λ e. other (sym e))))
+        ∙ sym (listed_added number qubits qubit ∙ or_false (is_listed number qubits) (eqb qubit.0 number) (ne_eqb qubit.0 number (λ e. other (sym e))))
   ];
 }
 
@@ -50,13 +50,13 @@ flags_more flags new qubits all index qubit h at below is are =
 pub none_more : (flags : List Bool) (qubits all : List Qubit) (index : ℕ) (qubit : Qubit) → index < length all → slice_get all index ≡ Some qubit → qubit.0 < 128 → AreFlags flags qubits → get_or flags qubit.0 false ≡ false
     → have_common qubits (take index all) ≡ false → have_common qubits (take (index + 1) all) ≡ false
 none_more flags qubits all index qubit h at below are off none =
-    list_any_more (λ (q : Qubit). stands q.0 qubits) all index qubit h ∙ ap (λ (b : Bool). b || stands (get_or all index qubit).0 qubits) none
-    ∙ ap (λ (q : Qubit). stands q.0 qubits) (get_or_from_slice_get all index qubit qubit at) ∙ sym (are.each qubit.0 below) ∙ off
+    list_any_more (λ (q : Qubit). is_listed q.0 qubits) all index qubit h ∙ ap (λ (b : Bool). b || is_listed (get_or all index qubit).0 qubits) none
+    ∙ ap (λ (q : Qubit). is_listed q.0 qubits) (get_or_from_slice_get all index qubit qubit at) ∙ sym (are.each qubit.0 below) ∙ off
 
 pub some_there : (flags : List Bool) (qubits all : List Qubit) (index : ℕ) (qubit : Qubit) → index < length all → slice_get all index ≡ Some qubit → qubit.0 < 128 → AreFlags flags qubits → get_or flags qubit.0 false ≡ true
     → true ≡ have_common qubits all
 some_there flags qubits all index qubit h at below are on =
-    sym (list_any_at (λ (q : Qubit). stands q.0 qubits) all index qubit h (ap (λ (q : Qubit). stands q.0 qubits) (get_or_from_slice_get all index qubit qubit at) ∙ sym (are.each qubit.0 below) ∙ on))
+    sym (list_any_at (λ (q : Qubit). is_listed q.0 qubits) all index qubit h (ap (λ (q : Qubit). is_listed q.0 qubits) (get_or_from_slice_get all index qubit qubit at) ∙ sym (are.each qubit.0 below) ∙ on))
 
 pub below_at : (all : List Qubit) (index : ℕ) (qubit : Qubit) → AreBelow all → index < length all → slice_get all index ≡ Some qubit → qubit.0 < 128
 below_at all index qubit below h at = subst (λ (q : Qubit). q.0 < 128) (get_or_from_slice_get all index qubit qubit at) (below index qubit h)

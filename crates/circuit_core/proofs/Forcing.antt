@@ -102,7 +102,7 @@ held_longer circuit first i end later number h (inl of_first) = inl of_first
 held_longer circuit first i end later number h (inr through) =
     inr (record { k = through.k; op = through.op; there = through.there; barrier = through.barrier; below = omega (arith, through.below); forced = through.forced; has = through.has })
 
--- these operations stand in the circuit from that number on
+-- these operations are in the circuit from that number on
 abbrev StandFrom : CircuitValue → ℕ → List Op → Type 0
 StandFrom circuit start ops = (k : ℕ) (op : Op) → slice_get ops k ≡ Some op → slice_get circuit.ops (start + k) ≡ Some op
 

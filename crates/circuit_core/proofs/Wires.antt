@@ -16,7 +16,7 @@ use Rattle.circuit_core.specs.Circuit.{CircuitValue, IsBitOf, first_bit}
 use Rattle.circuit_core.specs.Op.{qubits_of, bit_of, cond_of}
 use Rattle.circuit_core.specs.Order.{Wire, on_qubit, on_bit, IsTested, IsWire, Share}
 use Rattle.circuit_core.specs.LastOps.{IsIn}
-use Rattle.circuit_core.specs.Deciding.{bits_at, written, tested_by, tested, do_overlap, stands, have_common, share_bit, share_wire, is_shared}
+use Rattle.circuit_core.specs.Deciding.{bits_at, written, tested_by, tested, do_overlap, is_listed, have_common, share_bit, share_wire, is_shared}
 
 -- ---- qubits
 
@@ -33,15 +33,15 @@ has_first qubit qubits = (0, omega arith, refl)
 pub has_later : (qubit : Qubit) (qubits : List Qubit) (number : ℕ) → Has qubits number → Has (qubit ∷ qubits) number
 has_later qubit qubits number has = Contains-append_right (qubit ∷ []) qubits (qubit_at number) has
 
-pub stands_has : (number : ℕ) (qubits : List Qubit) → stands number qubits ≡ true → Has qubits number
-stands_has number [] is = absurd cc
-stands_has number (qubit ∷ qubits) is = elim (or_cases (eqb qubit.0 number) (stands number qubits) is) [
+pub listed_has : (number : ℕ) (qubits : List Qubit) → is_listed number qubits ≡ true → Has qubits number
+listed_has number [] is = absurd cc
+listed_has number (qubit ∷ qubits) is = elim (or_cases (eqb qubit.0 number) (is_listed number qubits) is) [
   | inl here ↦ subst (Has (qubit ∷ qubits)) (eqb-true qubit.0 number here) (has_first qubit qubits)
-  | inr later ↦ has_later qubit qubits number (stands_has number qubits later)
+  | inr later ↦ has_later qubit qubits number (listed_has number qubits later)
 ]
 
-pub has_stands : (number : ℕ) (qubits : List Qubit) → Has qubits number → stands number qubits ≡ true
-has_stands number qubits has =
+pub has_listed : (number : ℕ) (qubits : List Qubit) → Has qubits number → is_listed number qubits ≡ true
+has_listed number qubits has =
     list_any_at (λ (qubit : Qubit). eqb qubit.0 number) qubits has.0 (qubit_at number) has.1 (eq-eqb _ number (ap (λ (qubit : Qubit). qubit.0) has.2))
 
 -- a qubit of both lists
@@ -52,15 +52,15 @@ pub record Common (qubits others : List Qubit) : Type 0 where
 
 pub common_from : (qubits others : List Qubit) → have_common qubits others ≡ true → Common qubits others
 common_from qubits [] is = absurd cc
-common_from qubits (other ∷ others) is = elim (or_cases (stands other.0 qubits) (have_common qubits others) is) [
-  | inl here ↦ record { number = other.0; of_first = stands_has other.0 qubits here; of_second = has_first other others }
+common_from qubits (other ∷ others) is = elim (or_cases (is_listed other.0 qubits) (have_common qubits others) is) [
+  | inl here ↦ record { number = other.0; of_first = listed_has other.0 qubits here; of_second = has_first other others }
   | inr later ↦ (let rest : Common qubits others = common_from qubits others later in
       record { number = rest.number; of_first = rest.of_first; of_second = has_later other others rest.number rest.of_second })
 ]
 
 pub have_common_at : (qubits others : List Qubit) (number : ℕ) → Has qubits number → Has others number → have_common qubits others ≡ true
 have_common_at qubits others number first second =
-    list_any_at (λ (qubit : Qubit). stands qubit.0 qubits) others second.0 (qubit_at number) second.1 (has_stands _ qubits (subst (Has qubits) (sym (ap (λ (qubit : Qubit). qubit.0) second.2)) first))
+    list_any_at (λ (qubit : Qubit). is_listed qubit.0 qubits) others second.0 (qubit_at number) second.1 (has_listed _ qubits (subst (Has qubits) (sym (ap (λ (qubit : Qubit). qubit.0) second.2)) first))
 
 -- ---- bits
 

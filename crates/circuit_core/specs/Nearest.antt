@@ -8,7 +8,8 @@ use Rattle.circuit_core.specs.Order.{Forced, IsReached}
 abbrev pub IsListed : List OpId → ℕ → Type 0
 IsListed near number = Contains near (record { 0 = number })
 
--- each of them has to come before the operation, and what has to come before it is one of them or has to come before one of them
+-- each of them has to come before the operation, and what has to come before it is one of them or has to come
+-- before one of them
 pub record AreNearest (circuit : CircuitValue) (op : ℕ) (near : List OpId) : Type 0 where
   pub sound : (number : ℕ) → IsListed near number → Forced circuit number op
   pub all : (number : ℕ) → Forced circuit number op → IsReached circuit (IsListed near) number

@@ -72,7 +72,8 @@ pub record IsAngle (angle : Angle) : Type 0 where
 
 -- an opaque gate's name is an identifier, and it has at most 16 parameters and qubits together
 abbrev pub IsGate : Op → Type 0
-IsGate (Opaque name params first second cond) = IsTrue (is_identifier name) × (length params + length (one_or_two first second) ≤ 16)
+IsGate (Opaque name params first second cond) =
+    IsTrue (is_identifier name) × (length params + length (one_or_two first second) ≤ 16)
 IsGate op = Unit {0}
 
 -- An operation on so many qubits, bits and classical registers: what it names is there, and its qubits differ.

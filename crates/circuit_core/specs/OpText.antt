@@ -31,7 +31,7 @@ params_text (angle ∷ angles) = codes "(" ++ with_commas (map text_of (angle �
 abbrev pub reg_name : CircuitValue → ℕ → List ℕ
 reg_name circuit creg = option_map_or (λ (reg : Reg). reg.name) (slice_get circuit.cregs creg) []
 
--- what stands before an operation with a condition
+-- what is written before an operation with a condition
 abbrev pub cond_text : CircuitValue → Option Cond → List ℕ
 cond_text circuit None = []
 cond_text circuit (Some cond) =
@@ -59,6 +59,6 @@ op_text circuit op =
 
 -- ---- working notions of private functions
 
--- what stands before each text of a list: nothing before the first
+-- what is written before each text of a list: nothing before the first
 abbrev pub comma_before : ℕ → List ℕ
 comma_before index = if nat_lt 0 index then codes "," else []

@@ -1,4 +1,5 @@
--- The forms of real literals. The language is OpenQASM 2.0 (arXiv:1707.03429, the appendix on its grammar), the forms are this project's profile.
+-- The forms of real literals. The language is OpenQASM 2.0 (arXiv:1707.03429, the appendix on its grammar), the
+-- forms are this project's profile.
 use Rattle.std.specs.Prelude.{◌≡◌, ℕ, ◌+◌, ◌<◌, ◌≤◌, ◌⊎◌, Bool, IsTrue, List, [], ◌∷◌, ◌++◌, length, codes}
 use Rattle.std.specs.Char.{is_ascii_digit}
 

@@ -5,7 +5,7 @@ ghost use Rattle.std.specs.List.{list_all, list_any};
 ghost use Rattle.std.specs.Str.{bytes_eq};
 ghost use Rattle.circuit_core.specs.Identifier.{is_identifier, is_word_byte, reserved_words};
 
-// Whether a byte may stand in a name after its first.
+// Whether a byte may be in a name after its first.
 fn is_word_byte(byte: u8) -> bool
     ensures { result ≡ is_word_byte byte }
 {

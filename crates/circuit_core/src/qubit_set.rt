@@ -37,7 +37,8 @@ impl QubitSet {
     /// Adds the qubits of an operation.
     pub fn add(&mut self, op: &Op)
         requires { AreBelow (qubits_of op.now) }
-        ensures { (qubits : List AQubit) → AreFlags self.old qubits → AreFlags self.new (qubits ++ qubits_of op.now) }
+        ensures { (qubits : List AQubit) → AreFlags self.old qubits
+            → AreFlags self.new (qubits ++ qubits_of op.now) }
     {
         for index in 0..op.width() {
             self.flags[op.qubit(index).0 as usize] = true;
@@ -47,7 +48,8 @@ impl QubitSet {
     /// Whether a qubit of the operation is in it.
     pub fn meets(&self, op: &Op) -> bool
         requires { AreBelow (qubits_of op.now) }
-        ensures { (qubits : List AQubit) → AreFlags self.now qubits → result ≡ have_common qubits (qubits_of op.now) }
+        ensures { (qubits : List AQubit) → AreFlags self.now qubits
+            → result ≡ have_common qubits (qubits_of op.now) }
     {
         for index in 0..op.width() {
             if self.flags[op.qubit(index).0 as usize] {
@@ -60,7 +62,8 @@ impl QubitSet {
     /// Adds the qubits of each barrier among these operations, in order, that has one of the set.
     pub fn reach(&mut self, ops: &[Op])
         requires { All (λ (op : AnOp). AreBelow (qubits_of op)) ops.now }
-        ensures { (qubits : List AQubit) → AreFlags self.old qubits → AreFlags self.new (reached qubits ops.now) }
+        ensures { (qubits : List AQubit) → AreFlags self.old qubits
+            → AreFlags self.new (reached qubits ops.now) }
     {
         for op in ops {
             if op.is_barrier() && self.meets(op) {

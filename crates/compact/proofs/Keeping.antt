@@ -15,7 +15,7 @@ use Rattle.step_rules.specs.declared.action.Action.TheVariants as kinds
 use Rattle.step_rules.specs.Steps.{Spot, footprint}
 use Rattle.compact.specs.Latest.{IsAt, IsLast, IsEndedBy}
 use Rattle.compact.specs.Levels.{WiresValue, wire_level, SpotsValue, spot_level, IsGreatest, AreRaised}
-use Rattle.compact.specs.Orders.{Performs, Precedes, IsPerformedAt, AreOrdered, IsBehind, Reaches, IsSettled, AreWaiting, AreWires, Any, IsReadyAfter, IsAsked, IsSettling, IsPlaced, OrdersValue, AreOrders, AreSettled, AreLastPlaces}
+use Rattle.compact.specs.Orders.{Performs, Precedes, IsPerformedAt, AreOrdered, IsBeforeBarrier, Reaches, IsSettled, AreWaiting, AreWires, Any, IsReadyAfter, IsAsked, IsSettling, IsPlaced, OrdersValue, AreOrders, AreSettled, AreLastPlaces}
 use Rattle.compact.specs.Clock.{AreSpots}
 use Rattle.compact.proofs.Building.{take_next}
 use Rattle.compact.proofs.Last.{IsOneMore, none_last, one_more_at, last_past, raised_last}
@@ -146,8 +146,8 @@ wires_noted circuit actions times time level op operation old new now there e ra
     (λ wire on. inl (tt, record { op = operation; there = there; is_wire = on }))
     (λ wire it. elim it [
       | inl on ↦ wire_of circuit wire op operation there on.1
-      | inr at ↦ (let behind : IsBehind circuit (IsSettled circuit actions (length times)) wire op = at in
-          let early : length times < length times = behind.counted op (length times) now behind.forced in absurd (omega arith))
+      | inr at ↦ (let to_barrier : IsBeforeBarrier circuit (IsSettled circuit actions (length times)) wire op = at in
+          let early : length times < length times = to_barrier.counted op (length times) now to_barrier.forced in absurd (omega arith))
     ])
     wires
 

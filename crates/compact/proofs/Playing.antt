@@ -33,7 +33,7 @@ abbrev pub from_step : (Action → Bool) → ℕ → ℕ → List ℕ → List A
 from_step test start zero times actions = 0
 from_step test start (suc count) times actions = how_many test (with_time start times actions) + from_step test (suc start) count times actions
 
--- the first of the list stands in an earlier step
+-- the first of the list is in an earlier step
 first_before : (test : Action → Bool) (start count first : ℕ) (times : List ℕ) (action : Action) (actions : List Action) → first < start
     → from_step test start count (first ∷ times) (action ∷ actions) ≡ from_step test start count times actions
 first_before test start zero first times action actions h = refl

@@ -12,7 +12,7 @@ use Rattle.step_rules.specs.declared.action.Action.{Action}
 use Rattle.step_rules.specs.declared.action.Action.TheVariants as kinds
 use Rattle.compact.specs.Latest.{IsLast}
 use Rattle.compact.specs.Levels.{WiresValue, wire_level, IsGreatest, AreRaised}
-use Rattle.compact.specs.Orders.{Performs, Precedes, IsOnWire, IsBehind, Reaches, AreWires}
+use Rattle.compact.specs.Orders.{Performs, Precedes, IsOnWire, IsBeforeBarrier, Reaches, AreWires}
 use Rattle.compact.proofs.Last.{Touch, last_same, last_greatest, lifted_last}
 
 -- ---- what an action performs
@@ -92,11 +92,11 @@ reaches_forced circuit noted direct barriers j op wire there is sides i is_noted
     let share : Share circuit i j = shared circuit wire i j op on.1 there is in
     by_wire i j (sides.before i is_noted on.0 share) share
 reaches_forced circuit noted direct barriers j op wire there is sides i is_noted (inr it) =
-    let behind : IsBehind circuit barriers wire i = it in
-    let share : Share circuit behind.barrier j = shared circuit wire behind.barrier j op behind.on there is in
-    elim (sides.barrier_before behind.barrier behind.counted behind.is_barrier share) [
-      | inl before ↦ by_barrier i behind.barrier j behind.is_barrier behind.forced (by_wire behind.barrier j before share)
-      | inr same ↦ subst (λ (k : ℕ). Forced circuit i k) same behind.forced
+    let to_barrier : IsBeforeBarrier circuit barriers wire i = it in
+    let share : Share circuit to_barrier.barrier j = shared circuit wire to_barrier.barrier j op to_barrier.on there is in
+    elim (sides.barrier_before to_barrier.barrier to_barrier.counted to_barrier.is_barrier share) [
+      | inl before ↦ by_barrier i to_barrier.barrier j to_barrier.is_barrier to_barrier.forced (by_wire to_barrier.barrier j before share)
+      | inr same ↦ subst (λ (k : ℕ). Forced circuit i k) same to_barrier.forced
     ]
 
 forced_reaches : (circuit : CircuitValue) (noted : Action → ℕ → Type 0) (direct barriers : ℕ → Type 0) (j : ℕ) (op : Op) → slice_get circuit.ops j ≡ Some op → AreSides circuit noted direct barriers j
@@ -154,8 +154,8 @@ reaches_more : (circuit : CircuitValue) (noted : Action → ℕ → Type 0) (dir
     → Reaches circuit direct barriers wire i → Reaches circuit direct_now barriers_now wire i
 reaches_more circuit noted direct barriers direct_now barriers_now added n wire i lifted (inl on) = inl (lifted.direct_kept i on.0, on.1)
 reaches_more circuit noted direct barriers direct_now barriers_now added n wire i lifted (inr it) =
-    let behind : IsBehind circuit barriers wire i = it in
-    inr (record { barrier = behind.barrier; counted = lifted.barriers_kept behind.barrier behind.counted; is_barrier = behind.is_barrier; on = behind.on; forced = behind.forced })
+    let to_barrier : IsBeforeBarrier circuit barriers wire i = it in
+    inr (record { barrier = to_barrier.barrier; counted = lifted.barriers_kept to_barrier.barrier to_barrier.counted; is_barrier = to_barrier.is_barrier; on = to_barrier.on; forced = to_barrier.forced })
 
 reaches_new : (circuit : CircuitValue) (noted : Action → ℕ → Type 0) (direct barriers direct_now barriers_now added : ℕ → Type 0) (n : ℕ) (wire : Wire) (i : ℕ) → AreLifted circuit noted direct barriers direct_now barriers_now added n
     → IsOnWire circuit wire n → IsNotedOp noted i → added i → Reaches circuit direct_now barriers_now wire i
@@ -172,10 +172,10 @@ reaches_old circuit noted direct barriers direct_now barriers_now added n wire i
   | inr one ↦ inr (one.1, subst (IsOnWire circuit wire) one.0 on.1)
 ]
 reaches_old circuit noted direct barriers direct_now barriers_now added n wire i lifted its (inr it) =
-    let behind : IsBehind circuit barriers_now wire i = it in
-    elim (lifted.barriers_old i behind.barrier its behind.counted behind.is_barrier behind.forced) [
-      | inl old ↦ inl (inr (record { barrier = behind.barrier; counted = old; is_barrier = behind.is_barrier; on = behind.on; forced = behind.forced }))
-      | inr one ↦ inr (one.1, subst (IsOnWire circuit wire) one.0 behind.on)
+    let to_barrier : IsBeforeBarrier circuit barriers_now wire i = it in
+    elim (lifted.barriers_old i to_barrier.barrier its to_barrier.counted to_barrier.is_barrier to_barrier.forced) [
+      | inl old ↦ inl (inr (record { barrier = to_barrier.barrier; counted = old; is_barrier = to_barrier.is_barrier; on = to_barrier.on; forced = to_barrier.forced }))
+      | inr one ↦ inr (one.1, subst (IsOnWire circuit wire) one.0 to_barrier.on)
     ]
 
 performs_either : (first second : ℕ → Type 0) (action : Action) → Performs first action ⊎ Performs second action → Performs (λ (i : ℕ). first i ⊎ second i) action
@@ -231,8 +231,8 @@ pub wires_same : (circuit : CircuitValue) (noted : Action → ℕ → Type 0) (d
 wires_same circuit noted direct barriers barriers_now levels to back each wire =
     let changed : (first second : ℕ → Type 0) → ((k : ℕ) → IsBarrierAt circuit k → first k → second k) → (i : ℕ) → Reaches circuit direct first wire i → Reaches circuit direct second wire i = λ first second f i it. elim it [
       | inl on ↦ inl on
-      | inr at ↦ (let behind : IsBehind circuit first wire i = at in
-          inr (record { barrier = behind.barrier; counted = f behind.barrier behind.is_barrier behind.counted; is_barrier = behind.is_barrier; on = behind.on; forced = behind.forced }))
+      | inr at ↦ (let to_barrier : IsBeforeBarrier circuit first wire i = at in
+          inr (record { barrier = to_barrier.barrier; counted = f to_barrier.barrier to_barrier.is_barrier to_barrier.counted; is_barrier = to_barrier.is_barrier; on = to_barrier.on; forced = to_barrier.forced }))
     ] in
     last_same noted (Performs (Reaches circuit direct barriers wire)) (Performs (Reaches circuit direct barriers_now wire)) (wire_level levels wire) (each wire)
     (performs_map noted (Reaches circuit direct barriers wire) (Reaches circuit direct barriers_now wire) (λ i its. changed barriers barriers_now to i))

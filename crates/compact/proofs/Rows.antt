@@ -14,7 +14,7 @@ use Rattle.step_rules.specs.declared.action.Action.{Action}
 use Rattle.step_rules.specs.declared.action.Action.TheVariants as kinds
 use Rattle.compact.specs.Latest.{IsLast}
 use Rattle.compact.specs.Levels.{WiresValue, wire_level, IsLifted, AreRaised}
-use Rattle.compact.specs.Orders.{Performs, IsPerformedAt, AreOrdered, IsPlaced, IsPlaceNoted, AreLastPlaces, ArePassed, Below, row_grew, row_stayed, IsWaited, with_waiting, Reaches, IsBehind}
+use Rattle.compact.specs.Orders.{Performs, IsPerformedAt, AreOrdered, IsPlaced, IsPlaceNoted, AreLastPlaces, ArePassed, Below, row_grew, row_stayed, IsWaited, with_waiting, Reaches, IsBeforeBarrier}
 use Rattle.compact.proofs.Places.{in_front, front_at}
 use Rattle.compact.proofs.Last.{IsOneMore, none_last, last_past, last_with}
 use Rattle.compact.proofs.Reaching.{Performing, performing}
@@ -82,7 +82,7 @@ nothing_yet circuit actions wire = none_last (IsPlaced actions) (Performs (Reach
     (λ action time there it. let one : Performing (Reaches circuit (Below 0) (Below 0) wire) action = performing (Reaches circuit (Below 0) (Below 0) wire) action it in
     elim one.holds [
       | inl direct ↦ omega (arith, direct.0)
-      | inr at ↦ (let behind : IsBehind circuit (Below 0) wire one.op.0 = at in omega (arith, behind.counted))
+      | inr at ↦ (let to_barrier : IsBeforeBarrier circuit (Below 0) wire one.op.0 = at in omega (arith, to_barrier.counted))
     ])
 
 no_level : (circuit : CircuitValue) (actions : List Action) (wire : Wire) → IsLast (IsPlaced actions) (Performs (Reaches circuit (Below 0) (Below 0) wire)) (wire_level (record { qubits = []; bits = [] }) wire)

@@ -58,7 +58,7 @@ ascends row i j a b ascending before at_i at_j =
     let pair : (get_or row i a).0 < (get_or row j a).0 = ascending i j a before (slice_get_within row j b at_j) in
     subst (λ (x : OpId). x.0 < b.0) (get_or_from_slice_get row i a a at_i) (subst (λ (y : OpId). (get_or row i a).0 < y.0) (get_or_from_slice_get row j b a at_j) pair)
 
--- a barrier of the row that stands before another is among those before it
+-- a barrier of the row that is before another is among those before it
 in_the_front : (row : List OpId) (m : ℕ) (k other : OpId) → AllPairs (λ (first second : OpId). first.0 < second.0) row → slice_get row m ≡ Some k → Contains row other → other.0 < k.0 → Contains (take m row) other
 in_the_front row m k other ascending at_m it less =
     let at = at_contains row other it in

@@ -14,14 +14,14 @@ use Rattle.ion_chain.specs.Transfer.{list_at}
 use Rattle.circuit_core.specs.declared.op.Op.{Op}
 use Rattle.circuit_core.specs.Circuit.{CircuitValue}
 use Rattle.circuit_core.specs.Op.{is_barrier}
-use Rattle.circuit_core.specs.Order.{IsBarrierAt}
+use Rattle.circuit_core.specs.Order.{IsBarrierAt, is_performed}
 use Rattle.step_rules.specs.declared.action.Action.{Action}
 use Rattle.step_rules.specs.declared.action.Action.TheVariants as kinds
 use Rattle.step_rules.specs.Setting.{SettingValue}
 use Rattle.step_rules.specs.Placement.{start_of}
 use Rattle.step_rules.specs.declared.action.Rule.{Rule}
 use Rattle.step_rules.specs.declared.action.Rule.TheVariants.{NoPlace, NotOp, NotAble, Absent}
-use Rattle.step_rules.specs.Guards.{Guard, Passes, guard, first_broken, is_performed, is_able_for, are_among}
+use Rattle.step_rules.specs.Guards.{Guard, Passes, guard, first_broken, is_able_for, are_among}
 use Rattle.step_rules.specs.Steps.{Spot, footprint}
 use Rattle.step_rules.specs.Play.{PerformsIn, after_steps, one_at_a_time}
 use Rattle.step_rules.specs.Tight.{Meet, Conflict}

@@ -105,7 +105,7 @@ same_op a b y z e = let same : numbered a ≡ numbered b = cc in ap (λ (o : OpI
 pub same_place : (actions : List Action) (op other place : ℕ) → IsPerformedAt actions op place → IsPerformedAt actions other place → op ≡ other
 same_place actions op other place a b = same_op op other a.zone b.zone (same_Some (kinds.Op a.zone (numbered op)) (kinds.Op b.zone (numbered other)) (sym a.there ∙ b.there))
 
--- all that has to come before the barrier stands before that place
+-- all that has to come before the barrier is before that place
 settled_before : (circuit : CircuitValue) (actions : List Action) (n place : ℕ) → IsLast (IsPlaced actions) (Precedes circuit n) place → IsSettled circuit actions place n
 settled_before circuit actions n place its i q at forced = its.done (kinds.Op at.zone (numbered i)) q at.there forced
 

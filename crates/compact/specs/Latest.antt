@@ -7,7 +7,7 @@ use Rattle.step_rules.specs.Play.{AreLegal, after_steps, one_at_a_time}
 use Rattle.step_rules.specs.Tight.{Conflict}
 use Rattle.compact.specs.Tightened.{AreSpread}
 
--- the action stands in the list, with that step
+-- the action is in the list, with that step
 pub record IsAt (actions : List Action) (times : List ℕ) (action : Action) (time : ℕ) : Type 0 where
   pub position : ℕ
   pub is_action : slice_get actions position ≡ Some action

@@ -24,7 +24,7 @@ pub record IsPerformedAt (actions : List Action) (op place : ℕ) : Type 0 where
   pub zone : PlaceId
   pub there : slice_get actions place ≡ Some (kinds.Op zone (record { 0 = op }))
 
--- in the list forced operations stand in order, and each is of the circuit and no barrier
+-- in the list forced operations are in order, and each is of the circuit and no barrier
 pub record AreOrdered (circuit : CircuitValue) (actions : List Action) : Type 0 where
   pub in_order : (i j p q : ℕ) → Forced circuit i j → IsPerformedAt actions i p → IsPerformedAt actions j q → p < q
   pub no_barrier : (i p : ℕ) → IsPerformedAt actions i p → IsBarrierAt circuit i → ⊥
@@ -37,7 +37,7 @@ pub record IsOnWire (circuit : CircuitValue) (wire : Wire) (number : ℕ) : Type
   pub is_wire : IsWire circuit op wire
 
 -- the operation has to come before a barrier on the wire, one of these
-pub record IsBehind (circuit : CircuitValue) (barriers : ℕ → Type 0) (wire : Wire) (number : ℕ) : Type 0 where
+pub record IsBeforeBarrier (circuit : CircuitValue) (barriers : ℕ → Type 0) (wire : Wire) (number : ℕ) : Type 0 where
   pub barrier : ℕ
   pub counted : barriers barrier
   pub is_barrier : IsBarrierAt circuit barrier
@@ -46,7 +46,7 @@ pub record IsBehind (circuit : CircuitValue) (barriers : ℕ → Type 0) (wire :
 
 -- one of these operations acts on the wire, or has to come before one of these barriers on it
 abbrev pub Reaches : CircuitValue → (ℕ → Type 0) → (ℕ → Type 0) → Wire → ℕ → Type 0
-Reaches circuit direct barriers wire number = (direct number × IsOnWire circuit wire number) ⊎ IsBehind circuit barriers wire number
+Reaches circuit direct barriers wire number = (direct number × IsOnWire circuit wire number) ⊎ IsBeforeBarrier circuit barriers wire number
 
 -- the level of each wire is when all that reaches it is done
 abbrev pub AreWires : CircuitValue → (ℕ → Type 0) → (ℕ → Type 0) → (Action → ℕ → Type 0) → WiresValue → Type 0
@@ -56,11 +56,11 @@ AreWires circuit direct barriers noted levels = (wire : Wire) → IsLast noted (
 abbrev pub Any : ℕ → Type 0
 Any number = Unit {0}
 
--- all that has to come before the operation stands before that place of the list
+-- all that has to come before the operation is before that place of the list
 abbrev pub IsSettled : CircuitValue → List Action → ℕ → ℕ → Type 0
 IsSettled circuit actions place op = (i q : ℕ) → IsPerformedAt actions i q → Forced circuit i op → q < place
 
--- the action stands in the list, at that place
+-- the action is in the list, at that place
 abbrev pub IsPlaced : List Action → Action → ℕ → Type 0
 IsPlaced actions action place = slice_get actions place ≡ Some action
 

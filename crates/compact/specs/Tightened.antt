@@ -12,7 +12,7 @@ use Rattle.step_rules.specs.Tight.{Conflict}
 abbrev pub StandInOrder : CircuitValue → List (List Action) → Type 0
 StandInOrder circuit steps = (i j : ℕ) → Forced circuit i j → (s t : ℕ) → PerformsIn steps i s → PerformsIn steps j t → s < t
 
--- Played one after another from the placement, each action passes its guards, and forced operations stand in order.
+-- Played one after another from the placement, each action passes its guards, and forced operations are in order.
 pub record IsSerial (setting : SettingValue) (actions : List Action) : Type 0 where
   pub legal : AreLegal setting (start_of setting.trap setting.placement) (one_at_a_time actions)
   pub in_order : StandInOrder setting.circuit (one_at_a_time actions)
@@ -29,7 +29,7 @@ pub record AreSpread (actions : List Action) (times : List ℕ) (steps : List (L
   pub within : All (λ time. time < length steps) times
   pub each : (time : ℕ) (step : List Action) → slice_get steps time ≡ Some step → step ≡ with_time time times actions
 
--- of two actions of the list that conflict, the earlier one stands in an earlier step
+-- of two actions of the list that conflict, the earlier one is in an earlier step
 abbrev pub KeepOrder : SettingValue → List Action → List ℕ → Type 0
 KeepOrder setting actions times = (i j : ℕ) (first second : Action) (s t : ℕ) → i < j
     → slice_get actions i ≡ Some first → slice_get actions j ≡ Some second → slice_get times i ≡ Some s → slice_get times j ≡ Some t

@@ -301,7 +301,7 @@ fn none_before(circuit: &Circuit, op: OpId, rest: &[Action]) -> bool
     true
 }
 
-// Whether what has to come before the operation of that action stands before it.
+// Whether what has to come before the operation of that action is before it.
 fn stands_well(circuit: &Circuit, actions: &[Action], place: usize) -> bool
     requires { place < length actions.now }
     ensures { IsTrue result → (i j p : ℕ) → Forced circuit.now i j → IsPerformedAt actions.now i p
@@ -313,7 +313,7 @@ fn stands_well(circuit: &Circuit, actions: &[Action], place: usize) -> bool
     none_before(circuit, op, &actions[place..])
 }
 
-// Whether forced operations stand in order.
+// Whether forced operations are in order.
 fn in_order(circuit: &Circuit, actions: &[Action]) -> bool
     ensures { IsTrue result → StandInOrder circuit.now (one_at_a_time actions.now) }
 {

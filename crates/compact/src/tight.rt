@@ -78,7 +78,7 @@ fn schedule_of(alloc: Global, rows: &[Row]) -> Result<Schedule, NoMemory>
     Ok(schedule)
 }
 
-/// The tight schedule of a list of actions: each stands in the first step after those of all earlier actions that
+/// The tight schedule of a list of actions: each is in the first step after those of all earlier actions that
 /// conflict with it, and the list's order is kept inside a step. By passes over the list, each in linear time.
 pub fn tighten(alloc: Global, setting: &Setting, actions: &[Action]) -> Result<Schedule, NoMemory>
     requires { IsSerial setting.now actions.now }

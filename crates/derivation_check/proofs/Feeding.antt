@@ -57,7 +57,7 @@ HasFault-more task bytes more Endless h =
     }
 HasFault-more task bytes more NoMemory h = tt
 
--- ---- a checker that goes on
+-- ---- a checker that continues
 
 pub goes_on : (task : Task) (bytes : List ℕ) (old : Progress) → old.stopped ≡ None → WasFed task bytes old → GoesOn task bytes old
 goes_on task bytes old is fed = subst (StandsAt task bytes old) is fed

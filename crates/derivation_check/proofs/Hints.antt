@@ -12,7 +12,7 @@ pub record HintsAfter (hints others : List ℕ) (left rest : List ℕ) : Type 0 
   pub parts : others ≡ hints ++ tail
   pub text : left ≡ hints_text tail ++ codes "0\n" ++ rest
 
--- the hints so far are of the form and stand in front of what is left, and every reading begins with them
+-- the hints so far are of the form and are in front of what is left, and every reading begins with them
 pub record HintsSoFar (number : ℕ) (bytes hints left : List ℕ) : Type 0 where
   pub are : AreHints number hints
   pub text : bytes ≡ hints_text hints ++ left

@@ -16,7 +16,7 @@ pub record LiteralsAfter (lits others : List Literal) (left rest : List ℕ) : T
   pub parts : others ≡ lits ++ tail
   pub text : left ≡ literals_text tail ++ codes "0 " ++ rest
 
--- the literals so far are of the form and stand in front of what is left, and every reading begins with them
+-- the literals so far are of the form and are in front of what is left, and every reading begins with them
 pub record LiteralsSoFar (vars : ℕ) (bytes : List ℕ) (lits : List Literal) (above : ℕ) (left : List ℕ) : Type 0 where
   pub are : IsClause vars lits
   pub text : bytes ≡ literals_text lits ++ left

@@ -14,7 +14,7 @@ use Rattle.derivation_check.specs.Items.{sign_text, literal_word, hint_word, Are
 use Rattle.derivation_check.proofs.Spelled.{begins_above, literal_parts, end_of_literals, end_of_hints}
 use Rattle.derivation_check.proofs.Accepting.{IsFree-append}
 
--- ---- a line feed ends a line, and none stands before
+-- ---- a line feed ends a line, and none is before
 
 free_cons : (byte : ℕ) (bytes : List ℕ) → (byte ≡ 10 → ⊥) → IsFree 10 bytes → IsFree 10 (byte ∷ bytes)
 free_cons byte bytes other free zero d h = other

@@ -58,7 +58,7 @@ pub record TookUpTo (old : Progress) (bytes rest : List ℕ) (now : Progress) : 
 pub GoesOnAs-trans : (a b c : Progress) → GoesOnAs a b → GoesOnAs b c → GoesOnAs a c
 GoesOnAs-trans a b c ab bc = record { vars = bc.vars ∙ ab.vars; limit = bc.limit ∙ ab.limit; fed = bc.fed ∙ ab.fed; stopped = bc.stopped ∙ ab.stopped }
 
--- a line is what stands in front of the first line feed, and the line feed
+-- a line is what is in front of the first line feed, and the line feed
 pub line_word : (rest line after : List ℕ) (end : ℕ) → position (λ byte. byte == 10) rest ≡ Some end → end + 1 ≤ length rest → line ≡ take (end + 1) rest → line ≡ take end rest ++ 10 ∷ []
 line_word rest line after end found within is =
     let around : rest ≡ take end rest ++ 10 ∷ drop (end + 1) rest = around_sign 10 end rest found in
@@ -109,7 +109,7 @@ took_all old now next bytes rest took free clauses axioms place vars pending tas
       vars = vars ∙ a.vars;
     }
 
--- no line feed stands in bytes in which none is found
+-- no line feed is in bytes in which none is found
 by_test : (b : Bool) (i : ℕ) → cond b (Some i) None ≡ None → b ≡ false
 by_test true i e = absurd (none-some i (sym e))
 by_test false i e = refl

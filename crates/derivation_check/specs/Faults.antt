@@ -38,7 +38,7 @@ abbrev pub IsLineText : Task → ℕ → List ℕ → Type 0
 IsLineText task number bytes =
     (line : Line) × HasForm task.vars number line × (bytes ≡ line_text number line)
 
--- after accepted lines stands a whole line that doesn't have the form
+-- after accepted lines comes a whole line that doesn't have the form
 pub record HasMalformedLine (task : Task) (bytes : List ℕ) (place : ℕ) : Type 0 where
   pub lines : List Line
   pub word : List ℕ
@@ -48,7 +48,7 @@ pub record HasMalformedLine (task : Task) (bytes : List ℕ) (place : ℕ) : Typ
   pub other : IsLineText task (number_after task lines) (word ++ 10 ∷ []) → ⊥
   pub is_place : place ≡ place_after lines
 
--- after accepted lines stands a line of the form that is not good
+-- after accepted lines comes a line of the form that is not good
 pub record HasBadLine (task : Task) (bytes : List ℕ) (place : ℕ) : Type 0 where
   pub lines : List Line
   pub line : Line

@@ -22,14 +22,14 @@ IsBound (Open bound) = bound < 2 ^ 32
 abbrev pub HasNoTitle : List ℕ → Type 0
 HasNoTitle bytes = (rest : List ℕ) → bytes ≡ title_text ++ rest → ⊥
 
--- after the title stands no line of an encoding
+-- after the title comes no line of an encoding
 pub record HasNoEncoding (bytes : List ℕ) : Type 0 where
   pub left : List ℕ
   pub title : bytes ≡ title_text ++ left
   pub none : (encoding : ℕ) (rest : List ℕ) →
       IsEncoding encoding → left ≡ encoding_text encoding ++ rest → ⊥
 
--- after the title and an encoding stands no line of a bound
+-- after the title and an encoding comes no line of a bound
 pub record HasNoBound (bytes : List ℕ) : Type 0 where
   pub encoding : ℕ
   pub left : List ℕ

@@ -5,7 +5,7 @@ use Rattle.sat_base.specs.Clauses.{EachVariable}
 use Rattle.sat_base.specs.Derivation.{Line, IsAscending}
 use Rattle.sat_base.specs.Certificate.{literal_text}
 
--- what stands in front of a variable
+-- what is in front of a variable
 abbrev pub sign_text : Bool → List ℕ
 sign_text positive = if positive then [] else codes "-"
 

@@ -40,7 +40,7 @@ pub record GoesOn (task : Task) (bytes : List ℕ) (checker : Progress) : Type 0
   pub limit : checker.limit ≡ task.limit
   pub within : length bytes ≤ task.limit
 
--- where no fault was answered it goes on, else the bytes have that fault
+-- where no fault was answered it continues, else the bytes have that fault
 abbrev pub StandsAt : Task → List ℕ → Progress → Option CertFault → Type 0
 StandsAt task bytes checker None = GoesOn task bytes checker
 StandsAt task bytes checker (Some fault) = HasFault task bytes fault

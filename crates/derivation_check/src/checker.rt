@@ -225,7 +225,7 @@ impl Checker {
     }
 }
 
-// Where the first line feed stands.
+// Where the first line feed is.
 fn line_end(bytes: &[u8]) -> Option<usize>
     ensures { result ≡ position (λ byte. byte == 10) bytes.now }
 {

@@ -8,7 +8,7 @@ ghost use Rattle.derivation_check.specs.Items.{sign_text, literal_word, MayFollo
 use qc_base::{NoMemory, number_until, small_number_until, strip_prefix};
 use sat_base::Lit;
 
-// Whether no sign stands in front, and what comes after it.
+// Whether no sign is in front, and what comes after it.
 fn unsigned(bytes: &[u8]) -> (bool, &[u8])
     ensures parts { bytes.now ≡ sign_text result.0 ++ result.1.now }
     ensures only { (positive : Bool) (number : ℕ) (rest : List ℕ) → 0 < number → number < 2 ^ 64

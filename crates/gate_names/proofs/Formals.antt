@@ -1,4 +1,4 @@
--- Names that are noted one after another, against names of which none stands twice.
+-- Names that are noted one after another, against names of which none occurs twice.
 use Rattle.std.proofs.Common.{◌≡◌, ℕ, ◌+◌, List, [], ◌∷◌, ◌++◌, length, map, Bool, true, false, cond, ◌||◌, Option, Some, None, Result, Ok, Err, refl, ap, sym, ◌∙◌, append_assoc}
 use Rattle.std.proofs.lemmas.List.{append-nil}
 use Rattle.std.specs.Prelude.{is_some, nat_lt}
@@ -125,5 +125,5 @@ module _ (params qubits : List (List ℕ)) where
       ∙ ap (λ (n : Result Entries Cause). (n >>= λ s. noted s qubits) >>= λ t. few) h
       ∙ ap (λ (n : Result Entries Cause). n >>= λ t. few) k
 
--- names that are noted, against names of which none stands twice
+-- names that are noted, against names of which none occurs twice
 pub ruleset noting = (formals_refused, formals_refused_later, formals_noted)

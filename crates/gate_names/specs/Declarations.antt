@@ -20,12 +20,12 @@ use Rattle.gate_names.specs.Terms.{position_of, terms_of}
 
 -- ---- formal parameters and qubits
 
--- whether a name stands twice
+-- whether a name occurs twice
 abbrev pub repeats_name : List (List ℕ) → Bool
 repeats_name [] = false
 repeats_name (name ∷ names) = list_any (λ other. bytes_eq other name) names || repeats_name names
 
--- no formal stands twice, and there are at most 16
+-- no formal occurs twice, and there are at most 16
 abbrev pub formals_fit : List (List ℕ) → List (List ℕ) → Result (Unit {0}) Cause
 formals_fit params qubits =
     refuse_if (repeats_name (params ++ qubits)) Redeclared
@@ -51,7 +51,7 @@ repeats_position (k ∷ positions) = list_any (λ other. k == other) positions |
 abbrev pub with_position : List ℕ → ℕ → List ℕ
 with_position positions k = if list_any (λ other. k == other) positions then positions else positions ++ k ∷ []
 
--- a call of a gate whose counts fit: no qubit stands twice, and only parameters are named
+-- a call of a gate whose counts fit: no qubit occurs twice, and only parameters are named
 abbrev pub call_of : List (List ℕ) → ℕ → List Exp → List ℕ → Result Item Cause
 call_of params gate exps positions =
     refuse_if (repeats_position positions) Repeated >> terms_of params exps >>= λ terms. Ok (Call gate terms positions)

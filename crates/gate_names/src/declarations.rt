@@ -34,7 +34,7 @@ fn note_names(alloc: Global, seen: &mut Names, names: &[Name]) -> Result<(), Cau
     Ok(())
 }
 
-/// No formal stands twice, and there are not too many.
+/// No formal occurs twice, and there are not too many.
 #[tactic(auto, using(crate::proofs::Formals::noting))]
 fn formals_fit(alloc: Global, params: &[Name], qubits: &[Name]) -> Result<(), Cause>
     ensures { Gives (λ u. u) result (formals_fit params.now qubits.now) }

@@ -9,8 +9,9 @@ use Rattle.std.proofs.lemmas.List.Elements.{filter-append}
 use Rattle.std.proofs.lemmas.Option.{get_or_from_slice_get}
 use Rattle.qc_base.specs.declared.ids.OpId.{OpId}
 use Rattle.circuit_core.specs.Circuit.{CircuitValue}
+use Rattle.circuit_core.specs.Order.{is_performed}
 use Rattle.gate_order.specs.declared.progress.Progress.{Progress}
-use Rattle.gate_order.specs.Ready.{is_performed, IsAmong}
+use Rattle.gate_order.specs.Ready.{IsAmong}
 use Rattle.gate_order.specs.Keeping.{op, row, near_at, is_set, IsFull, IsOpen, IsStateOf, IsStateButOf, IsFront, IsKept, IsBlocked, IsVisited, done_in}
 use Rattle.gate_order.specs.Changes.{Settles, Puts, Takes}
 use Rattle.gate_order.proofs.States.{more_state, seen_same, seen_other, advanced, still_open, settled_state, ready_state, taken_state, settled_room, ready_room}

@@ -3,7 +3,8 @@ use Rattle.std.proofs.Common.{◌≡◌, ℕ, zero, suc, ◌<◌, ◌⊎◌, tru
 use Rattle.std.proofs.lemmas.Bool.{cases_eq}
 use Rattle.qc_base.specs.declared.ids.OpId.{OpId}
 use Rattle.circuit_core.proofs.Forcing.{forced_before}
-use Rattle.gate_order.specs.Ready.{ReadyValue, is_performed, IsAmong, AreReady}
+use Rattle.circuit_core.specs.Order.{is_performed}
+use Rattle.gate_order.specs.Ready.{ReadyValue, IsAmong, AreReady}
 use Rattle.gate_order.specs.Keeping.{op}
 
 among_or : (done : List OpId) (number : ℕ) → IsAmong done number ⊎ (IsAmong done number → ⊥)

@@ -8,11 +8,11 @@ use Rattle.qc_base.specs.declared.ids.OpId.{OpId}
 use Rattle.circuit_core.specs.declared.op.Op.{Op}
 use Rattle.circuit_core.specs.Circuit.{CircuitValue}
 use Rattle.circuit_core.specs.Op.{is_barrier}
-use Rattle.circuit_core.specs.Order.{Forced, by_barrier, IsBarrierAt}
+use Rattle.circuit_core.specs.Order.{Forced, by_barrier, IsBarrierAt, is_performed}
 use Rattle.circuit_core.specs.Nearest.{AreNearest, IsNearestTable}
 use Rattle.circuit_core.proofs.Forcing.{forced_before}
 use Rattle.gate_order.specs.declared.progress.Progress.{Progress}
-use Rattle.gate_order.specs.Ready.{is_performed, IsAmong, IsReady, AreReady}
+use Rattle.gate_order.specs.Ready.{IsAmong, IsReady, AreReady}
 use Rattle.gate_order.specs.Keeping.{op, row, near_at, is_set, IsFull, IsKept, IsBlocked, IsSettledAll, done_in}
 use Rattle.gate_order.proofs.Ascending.{among_at, at_among}
 

@@ -7,7 +7,8 @@ use Rattle.std.proofs.lemmas.List.{get_or-set_same, get_or-set_other, get_or_app
 use Rattle.std.proofs.lemmas.List.Elements.{Contains-append_left, Contains-push, Contains-push_cases, Contains-get_or}
 use Rattle.qc_base.specs.declared.ids.OpId.{OpId}
 use Rattle.circuit_core.specs.Circuit.{CircuitValue}
-use Rattle.gate_order.specs.Ready.{is_performed, IsAmong}
+use Rattle.circuit_core.specs.Order.{is_performed}
+use Rattle.gate_order.specs.Ready.{IsAmong}
 use Rattle.gate_order.specs.Keeping.{op, row, near_at, is_set, IsFull, IsOpen, IsStateBut, IsState, IsPlace, IsFront}
 use Rattle.gate_order.proofs.Flags.{set_within, set_here, set_other, set_stays, count_set, room_for, set_more, count_more}
 use Rattle.gate_order.proofs.Ascending.{insert_among, insert_old, insert_cases, insert_ascending, few_ascending, remove_old, remove_other, remove_out, remove_ascending}

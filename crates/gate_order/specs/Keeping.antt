@@ -3,8 +3,9 @@ use Rattle.std.specs.Prelude.{◌≡◌, ◌≢◌, ℕ, ◌<◌, ◌≤◌, ◌
 use Rattle.qc_base.specs.declared.ids.OpId.{OpId}
 use Rattle.circuit_core.specs.Circuit.{CircuitValue}
 use Rattle.circuit_core.specs.Nearest.{IsNearestTable}
+use Rattle.circuit_core.specs.Order.{is_performed}
 use Rattle.gate_order.specs.declared.progress.Progress.{Progress}
-use Rattle.gate_order.specs.Ready.{is_performed, IsAmong}
+use Rattle.gate_order.specs.Ready.{IsAmong}
 
 abbrev pub op : ℕ → OpId
 op number = record { 0 = number }

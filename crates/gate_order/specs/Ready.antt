@@ -1,20 +1,13 @@
 -- Which operations of a circuit are ready, after some of them are done.
-use Rattle.std.specs.Prelude.{◌≡◌, ℕ, ◌<◌, ◌↔◌, Bool, true, false, not, List, slice_get, Contains, AllPairs}
-use Rattle.std.specs.Option.{option_map_or}
+use Rattle.std.specs.Prelude.{◌≡◌, ℕ, ◌<◌, ◌↔◌, true, List, Contains, AllPairs}
 use Rattle.qc_base.specs.declared.ids.OpId.{OpId}
-use Rattle.circuit_core.specs.declared.op.Op.{Op}
 use Rattle.circuit_core.specs.Circuit.{CircuitValue}
-use Rattle.circuit_core.specs.Op.{is_barrier}
-use Rattle.circuit_core.specs.Order.{Forced}
+use Rattle.circuit_core.specs.Order.{Forced, is_performed}
 
 -- a circuit, and the operations that are done, in the order in which they were done
 pub record ReadyValue : Type 0 where
   pub circuit : CircuitValue
   pub done : List OpId
-
--- the number is of an operation that is no barrier
-abbrev pub is_performed : CircuitValue → ℕ → Bool
-is_performed circuit number = option_map_or (λ (op : Op). not (is_barrier op)) (slice_get circuit.ops number) false
 
 -- the operation of the number is one of these
 abbrev pub IsAmong : List OpId → ℕ → Type 0

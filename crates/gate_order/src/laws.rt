@@ -1,7 +1,8 @@
 //! What holds of the ready operations of all circuits.
 
 ghost use Rattle.std.specs.Prelude.{◌≡◌, ℕ, [], true};
-ghost use Rattle.gate_order.specs.Ready.{ReadyValue, is_performed, IsAmong, AreReady};
+ghost use Rattle.circuit_core.specs.Order.{is_performed};
+ghost use Rattle.gate_order.specs.Ready.{ReadyValue, IsAmong, AreReady};
 
 /// Where no operation is ready, all that are no barriers are done.
 pub fn all_are_done_where_none_is_ready()

@@ -3,7 +3,8 @@
 ghost use Rattle.std.specs.Prelude.{◌≡◌, ◌+◌, ◌<◌, ◌≤◌, ◌++◌, ◌∷◌, [], true, false, length, vec_len, vec_capacity, All, AllPairs, IfOk, OnOk};
 ghost use Rattle.qc_base.specs.declared.ids.OpId.{OpId as AnOpId};
 ghost use Rattle.circuit_core.specs.Nearest.{IsNearestTable};
-ghost use Rattle.gate_order.specs.Ready.{is_performed, IsAmong};
+ghost use Rattle.circuit_core.specs.Order.{is_performed};
+ghost use Rattle.gate_order.specs.Ready.{IsAmong};
 ghost use Rattle.gate_order.specs.Keeping.{IsPlace, IsFront, IsStateOf, HasRoom, IsKept, IsBlocked, IsVisited, AreAfter, IsSettledAll, done_in};
 ghost use Rattle.gate_order.specs.Changes.{IsEmpty, Settles, Puts, Takes};
 

@@ -1,4 +1,4 @@
--- Where the ions stand at the start.
+-- Where the ions are at the start.
 use Rattle.std.proofs.Common.{◌≡◌, ℕ, zero, suc, ◌+◌, ◌-◌, ◌*◌, ◌<◌, ◌≤◌, List, [], ◌∷◌, ◌++◌, length, replicate, true, false, refl, sym, ap, subst, ◌∙◌, inl, inr, arith}
 use Rattle.std.specs.Prelude.{◌==◌, slice_index_or}
 use Rattle.std.proofs.lemmas.Bool.{cases_eq, cases_lt, eq-eqb, ne_eqb}
@@ -55,7 +55,7 @@ early n first [] place h = refl
 early n first (list ∷ lists) zero h = count_below n first list h
 early n first (list ∷ lists) (suc place) h = early n (first + length list) lists place (omega arith)
 
--- an ion that stands there is one of so many
+-- an ion that is there is one of so many
 known_at : (n first : ℕ) (lists : List (List Qubit)) (place : ℕ) → first + length (reading_order lists) ≤ n → count_of n (list_at (places_from first lists) place) ≡ 0
 known_at n first [] place h = refl
 known_at n first (list ∷ lists) zero h = count_above n first list (omega (arith, length-append list (reading_order lists)))

@@ -1,4 +1,4 @@
--- How often an ion stands in a list, after ions pass.
+-- How often an ion is in a list, after ions pass.
 use Rattle.std.proofs.Common.{◌≡◌, ◌≢◌, ℕ, zero, suc, ◌+◌, ◌-◌, ◌<◌, ◌≤◌, cond, List, [], ◌∷◌, ◌++◌, length, get_or, set, take, drop, Some, swap, refl, sym, ap, ◌∙◌, inl, inr, arith, get_or-set_other}
 use Rattle.std.specs.Prelude.{slice_get, reverse, ◌==◌}
 use Rattle.std.proofs.lemmas.Bool.{cases_eq, eq-eqb, ne_eqb}
@@ -61,7 +61,7 @@ pub count-swap : (ion : ℕ) (ions : List Ion) (index : ℕ) → index + 1 < len
 count-swap ion [] index h = absurd (omega arith)
 count-swap ion (x ∷ xs) index h = count-exchanged ion (x ∷ xs) index (index + 1) x (λ e. absurd (omega (arith, e))) (omega arith) h
 
--- an ion at an index stands there
+-- an ion at an index is there
 pub count-at : (ions : List Ion) (index : ℕ) (ion : Ion) → slice_get ions index ≡ Some ion → 1 ≤ count_of ion.0 ions
 count-at ions index ion at = counted_there (λ (other : Ion). other.0 == ion.0) ions index ion at (eq-eqb ion.0 ion.0 refl)
 

@@ -13,7 +13,7 @@ use Rattle.circuit_core.specs.Circuit.{IsOpOf, qubit_count}
 use Rattle.circuit_core.specs.Op.{qubits_of, is_barrier}
 use Rattle.step_rules.specs.Setting.{need_of}
 use Rattle.step_rules.specs.Placement.{reading_order, ion_of, place_of, times}
-use Rattle.step_rules.specs.Guards.{is_performed}
+use Rattle.circuit_core.specs.Order.{is_performed}
 use Rattle.greedy_router.specs.declared.job.Job.{Job}
 use Rattle.greedy_router.specs.Routing.{MapValue, IsMap, IsWithin, IsJobOf, GivesJob}
 
@@ -45,7 +45,7 @@ has_job map op job is e = elim (slice_get_cases map.setting.circuit.ops op).1 [
   | inr past ↦ (let within : op < length map.jobs = slice_get_within map.jobs op (Some job) e in absurd (omega (arith, is.jobs.len, past.0)))
 ]
 
--- a qubit that stands in a list has a place in it
+-- a qubit that is in a list has a place in it
 place_below : (q : Qubit) (list : List Qubit) → 1 ≤ times q.0 list → place_of q list < length list
 place_below q [] some = absurd (omega arith)
 place_below q (other ∷ list) some =

@@ -1,4 +1,4 @@
--- Where the ions of an operation stand together.
+-- Where the ions of an operation are together.
 use Rattle.std.proofs.Common.{◌≡◌, ℕ, ◌≤◌, List, [], ◌∷◌, map, Bool, true, false, Some, refl, sym, ap, subst, ◌∙◌, inl, inr, arith}
 use Rattle.std.specs.Prelude.{Option, All, slice_get, ◌&&◌, ◌==◌}
 use Rattle.std.specs.Option.{option_map_or, option_and_then}

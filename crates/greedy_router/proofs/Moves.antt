@@ -141,7 +141,7 @@ moved_swap config zone index ion there h =
       ];
     }
 
--- ---- where ions stand then
+-- ---- where ions are then
 
 pub stands_moved : (trap : TrapValue) (before after : List (List Ion)) (ion from to : ℕ) → StandsIn trap before ion from → IsMoved before after ion from to → to < length trap.zones → StandsIn trap after ion to
 stands_moved trap before after ion from to stands moved there = record {

@@ -103,26 +103,26 @@ slot_holds trap place sound past h =
 
 -- ---- the ends of a split and of a merge
 
-end_behind : (trap : TrapValue) (segment : ℕ) (f : End) → length trap.zones ≤ first_slot trap segment → 1 ≤ slots_of trap segment → length trap.zones ≤ (slot_end trap segment f).slot
-end_behind trap segment A begins some = begins
-end_behind trap segment B begins some = omega arith
+end_after_zones : (trap : TrapValue) (segment : ℕ) (f : End) → length trap.zones ≤ first_slot trap segment → 1 ≤ slots_of trap segment → length trap.zones ≤ (slot_end trap segment f).slot
+end_after_zones trap segment A begins some = begins
+end_after_zones trap segment B begins some = omega arith
 
 either : {X : Type 0} (a b : Option X) (x : X) → option_or a b ≡ Some x → (a ≡ Some x) ⊎ (b ≡ Some x)
 either None b x e = inr e
 either (Some y) b x e = inl e
 
-slot_behind : (trap : TrapValue) (zone : ℕ) (end : End) (link : Link) (s : SlotEnd) → IsTrap trap → IsLink trap link → docked trap zone end link ≡ Some s → length trap.zones ≤ s.slot
-slot_behind trap zone end (links.Arm segment e junction) s sound known is = absurd cc
-slot_behind trap zone end (links.Dock other e segment f) s sound known is =
+slot_after_zones : (trap : TrapValue) (zone : ℕ) (end : End) (link : Link) (s : SlotEnd) → IsTrap trap → IsLink trap link → docked trap zone end link ≡ Some s → length trap.zones ≤ s.slot
+slot_after_zones trap zone end (links.Arm segment e junction) s sound known is = absurd cc
+slot_after_zones trap zone end (links.Dock other e segment f) s sound known is =
     let row = row_of trap segment sound known.1 in
     let same : slot_end trap segment f ≡ s = (cond_some (zone == other && same_end end e) (slot_end trap segment f) s is).1 in
-    subst (λ (t : SlotEnd). length trap.zones ≤ t.slot) same (end_behind trap segment f row.begins row.some)
+    subst (λ (t : SlotEnd). length trap.zones ≤ t.slot) same (end_after_zones trap segment f row.begins row.some)
 
-links_behind : (trap : TrapValue) (zone : ℕ) (end : End) (ls : List Link) (s : SlotEnd) → IsTrap trap → AreLinks trap ls → first_of (docked trap zone end) ls ≡ Some s → length trap.zones ≤ s.slot
-links_behind trap zone end [] s sound known e = absurd cc
-links_behind trap zone end (link ∷ ls) s sound known e = elim (either (docked trap zone end link) (first_of (docked trap zone end) ls) s e) [
-  | inl here ↦ slot_behind trap zone end link s sound known.0 here
-  | inr there ↦ links_behind trap zone end ls s sound known.1 there
+links_after_zones : (trap : TrapValue) (zone : ℕ) (end : End) (ls : List Link) (s : SlotEnd) → IsTrap trap → AreLinks trap ls → first_of (docked trap zone end) ls ≡ Some s → length trap.zones ≤ s.slot
+links_after_zones trap zone end [] s sound known e = absurd cc
+links_after_zones trap zone end (link ∷ ls) s sound known e = elim (either (docked trap zone end link) (first_of (docked trap zone end) ls) s e) [
+  | inl here ↦ slot_after_zones trap zone end link s sound known.0 here
+  | inr there ↦ links_after_zones trap zone end ls s sound known.1 there
 ]
 
 mapped : {X Y : Type 0} (f : X → Y) (o : Option X) (y : Y) → option_map f o ≡ Some y → (x : X) × (o ≡ Some x) × (f x ≡ y)
@@ -139,7 +139,7 @@ joined_zone trap zone end s e = elim (cases_lt zone (length trap.zones)) [
 record Docks (trap : TrapValue) (zone in_zone in_slot : ℕ) : Type 0 where
   is : zone ≡ in_zone
   there : zone < length trap.zones
-  behind : length trap.zones ≤ in_slot
+  after_zones : length trap.zones ≤ in_slot
 
 split_ends : (trap : TrapValue) (zone : ℕ) (end : End) (channel : Channel) → IsTrap trap → split_channel trap zone end ≡ Some channel → Docks trap zone channel.from.0 channel.to.0
 split_ends trap zone end channel sound e =
@@ -148,7 +148,7 @@ split_ends trap zone end channel sound e =
     record {
       is = ap (λ (c : Channel). c.from.0) it.2;
       there = joined_zone trap zone end it.0 it.1;
-      behind = omega (arith, to, links_behind trap zone end (links_of trap) it.0 sound (links_known trap) it.1);
+      after_zones = omega (arith, to, links_after_zones trap zone end (links_of trap) it.0 sound (links_known trap) it.1);
     }
 
 merge_ends : (trap : TrapValue) (zone : ℕ) (end : End) (channel : Channel) → IsTrap trap → merge_channel trap zone end ≡ Some channel → Docks trap zone channel.to.0 channel.from.0
@@ -158,7 +158,7 @@ merge_ends trap zone end channel sound e =
     record {
       is = ap (λ (c : Channel). c.to.0) it.2;
       there = joined_zone trap zone end it.0 it.1;
-      behind = omega (arith, from, links_behind trap zone end (links_of trap) it.0 sound (links_known trap) it.1);
+      after_zones = omega (arith, from, links_after_zones trap zone end (links_of trap) it.0 sound (links_known trap) it.1);
     }
 
 -- ---- the ends of a move and of a crossing
@@ -167,8 +167,8 @@ merge_ends trap zone end channel sound e =
 record Slots (trap : TrapValue) (channel : Channel) (from to : ℕ) : Type 0 where
   from_is : from ≡ channel.from.0
   to_is : to ≡ channel.to.0
-  from_behind : length trap.zones ≤ from
-  to_behind : length trap.zones ≤ to
+  from_after_zones : length trap.zones ≤ from
+  to_after_zones : length trap.zones ≤ to
 
 in_one_segment : (a : Bool) (b : Option Channel) (channel : Channel) → cond a b None ≡ Some channel → a ≡ true
 in_one_segment true b channel e = refl
@@ -179,8 +179,8 @@ both_slots None b e = absurd cc
 both_slots (Some s) None e = absurd cc
 both_slots (Some s) (Some t) e = ((λ n. none-some s (sym n)), (λ n. none-some t (sym n)))
 
-behind_zones : (trap : TrapValue) (place : ℕ) → (slot_at trap place ≡ None → ⊥) → length trap.zones ≤ place
-behind_zones trap place some = elim (cases_lt place (length trap.zones)) [
+after_zones_of : (trap : TrapValue) (place : ℕ) → (slot_at trap place ≡ None → ⊥) → length trap.zones ≤ place
+after_zones_of trap place some = elim (cases_lt place (length trap.zones)) [
   | inl zone ↦ absurd (some (no_slot_zone trap place zone))
   | inr past ↦ past
 ]
@@ -191,30 +191,30 @@ move_ends trap from to channel e =
     let one : same_segment (slot_at trap from) (slot_at trap to) ≡ true =
     in_one_segment (same_segment (slot_at trap from) (slot_at trap to)) (cond (to == from + 1) (Some (channel_of ways.Move from B to A None)) (cond (from == to + 1) (Some (channel_of ways.Move from A to B None)) None)) channel e in
     let slots = both_slots (slot_at trap from) (slot_at trap to) one in
-    record { from_is = ends.0; to_is = ends.1; from_behind = behind_zones trap from slots.0; to_behind = behind_zones trap to slots.1 }
+    record { from_is = ends.0; to_is = ends.1; from_after_zones = after_zones_of trap from slots.0; to_after_zones = after_zones_of trap to slots.1 }
 
-abbrev ArmsBehind : ℕ → List SlotEnd → Type 0
-ArmsBehind n [] = Unit {0}
-ArmsBehind n (arm ∷ arms) = (n ≤ arm.slot) × ArmsBehind n arms
+abbrev ArmsAfterZones : ℕ → List SlotEnd → Type 0
+ArmsAfterZones n [] = Unit {0}
+ArmsAfterZones n (arm ∷ arms) = (n ≤ arm.slot) × ArmsAfterZones n arms
 
-cons_behind : (n : ℕ) (arm : Option SlotEnd) (arms : List SlotEnd) → IfSome arm (λ a. n ≤ a.slot) → ArmsBehind n arms → ArmsBehind n (cons_option arm arms)
-cons_behind n None arms p q = q
-cons_behind n (Some arm) arms p q = (p, q)
+cons_after_zones : (n : ℕ) (arm : Option SlotEnd) (arms : List SlotEnd) → IfSome arm (λ a. n ≤ a.slot) → ArmsAfterZones n arms → ArmsAfterZones n (cons_option arm arms)
+cons_after_zones n None arms p q = q
+cons_after_zones n (Some arm) arms p q = (p, q)
 
-arms_behind : (trap : TrapValue) (junction : ℕ) (ls : List Link) → IsTrap trap → AreLinks trap ls → ArmsBehind (length trap.zones) (filter_map (arm_at trap junction) ls)
-arms_behind trap junction [] sound known = tt
-arms_behind trap junction (links.Dock zone e s f ∷ ls) sound known = arms_behind trap junction ls sound known.1
-arms_behind trap junction (links.Arm s e other ∷ ls) sound known =
+arms_after_zones : (trap : TrapValue) (junction : ℕ) (ls : List Link) → IsTrap trap → AreLinks trap ls → ArmsAfterZones (length trap.zones) (filter_map (arm_at trap junction) ls)
+arms_after_zones trap junction [] sound known = tt
+arms_after_zones trap junction (links.Dock zone e s f ∷ ls) sound known = arms_after_zones trap junction ls sound known.1
+arms_after_zones trap junction (links.Arm s e other ∷ ls) sound known =
     let row = row_of trap s sound known.0.0 in
-    cons_behind (length trap.zones) (arm_at trap junction (links.Arm s e other)) (filter_map (arm_at trap junction) ls)
-    (cond_both (junction == other) (Some s) None (λ o. IfSome (option_map (λ segment. slot_end trap segment e) o) (λ a. length trap.zones ≤ a.slot)) (λ _. end_behind trap s e row.begins row.some) (λ _. tt))
-    (arms_behind trap junction ls sound known.1)
+    cons_after_zones (length trap.zones) (arm_at trap junction (links.Arm s e other)) (filter_map (arm_at trap junction) ls)
+    (cond_both (junction == other) (Some s) None (λ o. IfSome (option_map (λ segment. slot_end trap segment e) o) (λ a. length trap.zones ≤ a.slot)) (λ _. end_after_zones trap s e row.begins row.some) (λ _. tt))
+    (arms_after_zones trap junction ls sound known.1)
 
-found_behind : (n : ℕ) (p : SlotEnd → Bool) (arms : List SlotEnd) (arm : SlotEnd) → ArmsBehind n arms → find p arms ≡ Some arm → n ≤ arm.slot
-found_behind n p [] arm behind e = absurd cc
-found_behind n p (first ∷ arms) arm behind e = elim (cases_Bool (p first)) [
-  | inl here ↦ (let same : first ≡ arm = same_Some first arm (sym (cond-true (p first) (Some first) (find p arms) here) ∙ e) in subst (λ (a : SlotEnd). n ≤ a.slot) same behind.0)
-  | inr later ↦ found_behind n p arms arm behind.1 (sym (cond-false (p first) (Some first) (find p arms) later) ∙ e)
+found_after_zones : (n : ℕ) (p : SlotEnd → Bool) (arms : List SlotEnd) (arm : SlotEnd) → ArmsAfterZones n arms → find p arms ≡ Some arm → n ≤ arm.slot
+found_after_zones n p [] arm after_zones e = absurd cc
+found_after_zones n p (first ∷ arms) arm after_zones e = elim (cases_Bool (p first)) [
+  | inl here ↦ (let same : first ≡ arm = same_Some first arm (sym (cond-true (p first) (Some first) (find p arms) here) ∙ e) in subst (λ (a : SlotEnd). n ≤ a.slot) same after_zones.0)
+  | inr later ↦ found_after_zones n p arms arm after_zones.1 (sym (cond-false (p first) (Some first) (find p arms) later) ∙ e)
 ]
 
 two_arms : (crossed : ℕ) (from to : Option SlotEnd) (channel : Channel) → option_and_then (λ out. option_map (cross crossed out) to) from ≡ Some channel
@@ -238,12 +238,12 @@ cross_ends trap junction from to channel sound e =
     let ends = crossing_ends trap junction from to channel e in
     let some : option_and_then (λ out. option_map (cross junction out) (arm_of trap junction to)) (arm_of trap junction from) ≡ Some channel = (unless_same (from == to) _ channel e).1 in
     let it = two_arms junction (arm_of trap junction from) (arm_of trap junction to) channel some in
-    let behind : ArmsBehind (length trap.zones) (arms_of trap junction) = arms_behind trap junction (links_of trap) sound (links_known trap) in
-    let out : length trap.zones ≤ it.0.slot = found_behind (length trap.zones) (λ (arm : SlotEnd). from == arm.slot) (arms_of trap junction) it.0 behind it.2 in
-    let into : length trap.zones ≤ it.1.slot = found_behind (length trap.zones) (λ (arm : SlotEnd). to == arm.slot) (arms_of trap junction) it.1 behind it.3 in
+    let after_zones : ArmsAfterZones (length trap.zones) (arms_of trap junction) = arms_after_zones trap junction (links_of trap) sound (links_known trap) in
+    let out : length trap.zones ≤ it.0.slot = found_after_zones (length trap.zones) (λ (arm : SlotEnd). from == arm.slot) (arms_of trap junction) it.0 after_zones it.2 in
+    let into : length trap.zones ≤ it.1.slot = found_after_zones (length trap.zones) (λ (arm : SlotEnd). to == arm.slot) (arms_of trap junction) it.1 after_zones it.3 in
     let at_from : it.0.slot ≡ channel.from.0 = ap (λ (c : Channel). c.from.0) it.4 in
     let at_to : it.1.slot ≡ channel.to.0 = ap (λ (c : Channel). c.to.0) it.4 in
-    record { from_is = ends.0; to_is = ends.1; from_behind = omega (arith, out, at_from, ends.0); to_behind = omega (arith, into, at_to, ends.1) }
+    record { from_is = ends.0; to_is = ends.1; from_after_zones = omega (arith, out, at_from, ends.0); to_after_zones = omega (arith, into, at_to, ends.1) }
 
 -- ---- one ion passes its guards
 
@@ -254,10 +254,10 @@ split_passes trap config zone count end channel ion sound single e below can =
     let source : List Ion = list_at config channel.from.0 in
     let target : List Ion = list_at config channel.to.0 in
     let some : 1 ≤ length source = some_stand ion source can.stands in
-    let holds : 1 ≤ limit_of trap channel.to.0 = slot_holds trap channel.to.0 sound ends.behind below in
+    let holds : 1 ≤ limit_of trap channel.to.0 = slot_holds trap channel.to.0 sound ends.after_zones below in
     let counts : is_count_of count source ≡ true = and_from (nat_le 1 count) (nat_le count (length source)) (le-leb 1 count (omega (arith, single))) (le-leb count (length source) (omega (arith, single, some))) in
     five_pass (is_zone trap zone) true (is_count_of count source) (nat_le count (limit_of trap channel.to.0)) (is_empty target) rules.NoPlace rules.NoJoin rules.Index rules.Load rules.Occupied
-    (zone_is trap zone ends.there) refl counts (le-leb count (limit_of trap channel.to.0) (omega (arith, single, holds))) (no_ion target (can.empty ends.behind))
+    (zone_is trap zone ends.there) refl counts (le-leb count (limit_of trap channel.to.0) (omega (arith, single, holds))) (no_ion target (can.empty ends.after_zones))
 
 move_passes : (trap : TrapValue) (config : List (List Ion)) (from to : ℕ) (channel : Channel) (ion : ℕ) → move_channel trap from to ≡ Some channel → IsWithin trap channel
     → CanPass trap config ion channel.from.0 channel.to.0 → first_broken (move_guards trap config from to (Some channel)) ≡ None
@@ -266,9 +266,9 @@ move_passes trap config from to channel ion e within can =
     let source : List Ion = list_at config channel.from.0 in
     let target : List Ion = list_at config channel.to.0 in
     let places : (is_slot trap from && is_slot trap to) ≡ true =
-    and_from (is_slot trap from) (is_slot trap to) (slot_is trap from ends.from_behind (omega (arith, within.from, ends.from_is))) (slot_is trap to ends.to_behind (omega (arith, within.to, ends.to_is))) in
+    and_from (is_slot trap from) (is_slot trap to) (slot_is trap from ends.from_after_zones (omega (arith, within.from, ends.from_is))) (slot_is trap to ends.to_after_zones (omega (arith, within.to, ends.to_is))) in
     four_pass (is_slot trap from && is_slot trap to) true (not (is_empty source)) (is_empty target) rules.NoPlace rules.NoJoin rules.Empty rules.Occupied
-    places refl (some_ion source (some_stand ion source can.stands)) (no_ion target (can.empty (omega (arith, ends.to_behind, ends.to_is))))
+    places refl (some_ion source (some_stand ion source can.stands)) (no_ion target (can.empty (omega (arith, ends.to_after_zones, ends.to_is))))
 
 cross_passes : (trap : TrapValue) (config : List (List Ion)) (junction from to : ℕ) (channel : Channel) (ion : ℕ) → IsTrap trap → cross_channel trap junction from to ≡ Some channel → IsWithin trap channel
     → CanPass trap config ion channel.from.0 channel.to.0 → first_broken (cross_guards trap config junction from to (Some channel)) ≡ None
@@ -276,16 +276,16 @@ cross_passes trap config junction from to channel ion sound e within can =
     let ends = cross_ends trap junction from to channel sound e in
     let source : List Ion = list_at config channel.from.0 in
     let target : List Ion = list_at config channel.to.0 in
-    let one : length source ≡ 1 = can.alone (omega (arith, ends.from_behind, ends.from_is)) in
-    let to_behind : length trap.zones ≤ channel.to.0 = omega (arith, ends.to_behind, ends.to_is) in
-    let holds : 1 ≤ limit_of trap channel.to.0 = slot_holds trap channel.to.0 sound to_behind within.to in
+    let one : length source ≡ 1 = can.alone (omega (arith, ends.from_after_zones, ends.from_is)) in
+    let to_after_zones : length trap.zones ≤ channel.to.0 = omega (arith, ends.to_after_zones, ends.to_is) in
+    let holds : 1 ≤ limit_of trap channel.to.0 = slot_holds trap channel.to.0 sound to_after_zones within.to in
     let places : (is_slot trap from && is_slot trap to) ≡ true =
-    and_from (is_slot trap from) (is_slot trap to) (slot_is trap from ends.from_behind (omega (arith, within.from, ends.from_is))) (slot_is trap to ends.to_behind (omega (arith, within.to, ends.to_is))) in
+    and_from (is_slot trap from) (is_slot trap to) (slot_is trap from ends.from_after_zones (omega (arith, within.from, ends.from_is))) (slot_is trap to ends.to_after_zones (omega (arith, within.to, ends.to_is))) in
     let all : (is_junction trap junction && (is_slot trap from && is_slot trap to)) ≡ true =
     and_from (is_junction trap junction) (is_slot trap from && is_slot trap to) (lt-ltb junction (length trap.junctions) (crossed_there trap junction from to channel e)) places in
     five_pass (is_junction trap junction && (is_slot trap from && is_slot trap to)) true (not (is_empty source)) (is_empty target) (nat_le (length source) (limit_of trap channel.to.0))
     rules.NoPlace rules.NoJoin rules.Empty rules.Occupied rules.Load
-    all refl (some_ion source (omega (arith, one))) (no_ion target (can.empty to_behind)) (le-leb (length source) (limit_of trap channel.to.0) (omega (arith, one, holds)))
+    all refl (some_ion source (omega (arith, one))) (no_ion target (can.empty to_after_zones)) (le-leb (length source) (limit_of trap channel.to.0) (omega (arith, one, holds)))
 
 merge_passes : (trap : TrapValue) (config : List (List Ion)) (zone : ℕ) (end : End) (channel : Channel) (ion : ℕ) → IsTrap trap → merge_channel trap zone end ≡ Some channel
     → CanPass trap config ion channel.from.0 channel.to.0 → first_broken (merge_guards trap config zone (Some channel)) ≡ None
@@ -293,7 +293,7 @@ merge_passes trap config zone end channel ion sound e can =
     let ends = merge_ends trap zone end channel sound e in
     let source : List Ion = list_at config channel.from.0 in
     let target : List Ion = list_at config channel.to.0 in
-    let one : length source ≡ 1 = can.alone ends.behind in
+    let one : length source ≡ 1 = can.alone ends.after_zones in
     let free : length target + 1 ≤ limit_of trap channel.to.0 = can.free (omega (arith, ends.is, ends.there)) in
     four_pass (is_zone trap zone) true (not (is_empty source)) (nat_le (length source + length target) (limit_of trap channel.to.0)) rules.NoPlace rules.NoJoin rules.Empty rules.Full
     (zone_is trap zone ends.there) refl (some_ion source (omega (arith, one))) (le-leb (length source + length target) (limit_of trap channel.to.0) (omega (arith, one, free)))
@@ -320,11 +320,11 @@ passes_one : (trap : TrapValue) (config : List (List Ion)) (action : Action) (ch
     → channel_for trap action ≡ Some channel → CanPass trap config ion channel.from.0 channel.to.0 → passing action (list_at config channel.from.0) ≡ 1
 passes_one trap config (kinds.Split zone end count) channel ion sound single e can = single
 passes_one trap config (kinds.Move from to) channel ion sound single e can =
-    let ends = move_ends trap from.0 to.0 channel e in can.alone (omega (arith, ends.from_behind, ends.from_is))
+    let ends = move_ends trap from.0 to.0 channel e in can.alone (omega (arith, ends.from_after_zones, ends.from_is))
 passes_one trap config (kinds.Cross junction from to) channel ion sound single e can =
-    let ends = cross_ends trap junction.0 from.0 to.0 channel sound e in can.alone (omega (arith, ends.from_behind, ends.from_is))
+    let ends = cross_ends trap junction.0 from.0 to.0 channel sound e in can.alone (omega (arith, ends.from_after_zones, ends.from_is))
 passes_one trap config (kinds.Merge zone end) channel ion sound single e can =
-    let ends = merge_ends trap zone.0 end channel sound e in can.alone ends.behind
+    let ends = merge_ends trap zone.0 end channel sound e in can.alone ends.after_zones
 passes_one trap config (kinds.Swap zone index) channel ion sound single e can = absurd cc
 passes_one trap config (kinds.Op zone op) channel ion sound single e can = absurd cc
 
@@ -342,7 +342,7 @@ apart_by : (trap : TrapValue) (number : ℕ) (kind : Kind) (junction : Option Ju
     → channel.from.0 ≢ channel.to.0
 apart_by trap number ways.Split junction channel sound at is same =
     let ends = split_ends trap channel.from.0 channel.from_end channel sound (led trap _ number _ channel (split_leads trap channel.from.0 channel.from_end) is at) in
-    absurd (omega (arith, ends.there, ends.behind, same))
+    absurd (omega (arith, ends.there, ends.after_zones, same))
 apart_by trap number ways.Move junction channel sound at is same =
     let from : ℕ = channel.from.0 in
     let to : ℕ = channel.to.0 in
@@ -356,7 +356,7 @@ apart_by trap number ways.Cross (Some junction) channel sound at is same =
     absurd (cc (differ, eq-eqb from to same))
 apart_by trap number ways.Merge junction channel sound at is same =
     let ends = merge_ends trap channel.to.0 channel.to_end channel sound (led trap _ number _ channel (merge_leads trap channel.to.0 channel.to_end) is at) in
-    absurd (omega (arith, ends.there, ends.behind, same))
+    absurd (omega (arith, ends.there, ends.after_zones, same))
 
 -- a channel leads between two places, at least one of which is a slot
 pub ends_apart : (trap : TrapValue) (number : ℕ) (channel : Channel) → IsTrap trap → slice_get (channels_of trap) number ≡ Some channel → channel.from.0 ≢ channel.to.0

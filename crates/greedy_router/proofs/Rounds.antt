@@ -26,7 +26,7 @@ use Rattle.gate_order.specs.Ready.{ReadyValue, AreReady, IsReady, IsAmong}
 use Rattle.step_rules.specs.declared.action.Action.{Action}
 use Rattle.step_rules.specs.Setting.{SettingValue}
 use Rattle.step_rules.specs.Placement.{reading_order}
-use Rattle.step_rules.specs.Guards.{is_performed}
+use Rattle.circuit_core.specs.Order.{is_performed}
 use Rattle.greedy_router.specs.declared.job.Job.{Job}
 use Rattle.greedy_router.specs.declared.has_room.RoomFault.{RoomFault}
 use Rattle.greedy_router.specs.declared.has_room.RoomFault.TheVariants.{Tight, Apart, NoAble, NoMemory}
@@ -188,7 +188,7 @@ able_somewhere map op job is performed at none =
     let here : is_able map.setting.trap able.0 job.need ≡ true = sym (able_by_job map op able.0 job is at) ∙ able.1 in
     none able.0 (able_within map.setting.trap able.0 job.need here) here
 
--- an ion that stands in a place has its home there
+-- an ion that is in a place has its home there
 pub stands_home : (trap : TrapValue) (config : List (List Ion)) (homes : List PlaceId) (ion place : ℕ) → AreHomes trap config homes → ion < length homes → 1 ≤ count_of ion (list_at config place)
     → place ≡ home_of homes ion
 stands_home trap config homes ion place are within some = elim (cases_eq place (home_of homes ion)) [

@@ -9,12 +9,13 @@ use Rattle.std.proofs.lemmas.Option.{same_Some}
 use Rattle.qc_base.specs.declared.ids.Ion.{Ion}
 use Rattle.qc_base.specs.declared.ids.OpId.{OpId}
 use Rattle.qc_base.specs.declared.ids.PlaceId.{PlaceId}
+use Rattle.circuit_core.specs.Order.{is_performed}
 use Rattle.step_rules.specs.declared.action.Action.{Action}
 use Rattle.step_rules.specs.declared.action.Action.TheVariants as kinds
 use Rattle.step_rules.specs.Setting.{SettingValue}
 use Rattle.step_rules.specs.declared.action.Rule.{Rule}
 use Rattle.step_rules.specs.Placement.{start_of}
-use Rattle.step_rules.specs.Guards.{guard, first_broken, is_performed, Passes}
+use Rattle.step_rules.specs.Guards.{guard, first_broken, Passes}
 use Rattle.step_rules.specs.Steps.{IsLegal, after, after_step}
 use Rattle.step_rules.specs.Play.{AreLegal, after_steps, one_at_a_time}
 use Rattle.greedy_router.specs.Serial.{config_after, ops_of, is_op, is_turn, IsSingle, IsTogether, IsPossible, IsNext}

@@ -14,7 +14,7 @@ abbrev pub undone : ℕ → List OpId → ℕ
 undone zero done = 0
 undone (suc number) done = undone number done + (if list_any (λ (op : OpId). op.0 == number) done then 0 else 1)
 
--- an operation that passes the test stands there
+-- an operation that passes the test is there
 found_among : (number : ℕ) (done : List OpId) → list_any (λ (it : OpId). it.0 == number) done ≡ true → IsAmong done number
 found_among number done e =
     let it = Any-from_list_any (λ (op : OpId). op.0 == number) done e in

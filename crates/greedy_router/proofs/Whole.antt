@@ -8,8 +8,8 @@ use Rattle.std.proofs.lemmas.Option.{slice_get-map, slice_get_cases}
 use Rattle.qc_base.specs.Counting.{how_many}
 use Rattle.qc_base.specs.declared.ids.OpId.{OpId}
 use Rattle.qc_base.specs.declared.ids.PlaceId.{PlaceId}
-use Rattle.circuit_core.specs.Order.{Forced}
-use Rattle.gate_order.specs.Ready.{AreReady, IsAmong, is_performed}
+use Rattle.circuit_core.specs.Order.{Forced, is_performed}
+use Rattle.gate_order.specs.Ready.{AreReady, IsAmong}
 use Rattle.gate_order.specs.Keeping.{op as op_of}
 use Rattle.gate_order.proofs.Last.{all_done}
 use Rattle.step_rules.specs.declared.action.Action.{Action}

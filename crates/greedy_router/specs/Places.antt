@@ -1,4 +1,4 @@
--- Working notions of private functions: where single ions stand, and what the way of one ion changes.
+-- Working notions of private functions: where single ions are, and what the travel of one ion changes.
 use Rattle.std.specs.Prelude.{◌≡◌, ◌≢◌, ℕ, zero, suc, ◌+◌, ◌*◌, ◌<◌, ◌≤◌, ◌==◌, Bool, ◌&&◌, if◌then◌else◌, List, [], ◌∷◌, length, slice_get}
 use Rattle.std.specs.Option.{option_map_or}
 use Rattle.qc_base.specs.declared.ids.Ion.{Ion}
@@ -7,7 +7,7 @@ use Rattle.qc_base.specs.Counting.{how_many}
 use Rattle.trap_model.specs.Trap.{TrapValue, limit_of}
 use Rattle.ion_chain.specs.Transfer.{list_at}
 
--- how often the ion of that number stands there
+-- how often the ion of that number is there
 abbrev pub count_of : ℕ → List Ion → ℕ
 count_of ion ions = how_many (λ (other : Ion). other.0 == ion) ions
 
@@ -19,7 +19,7 @@ one_if a b = if a == b then 1 else 0
 abbrev pub one_if_both : ℕ → ℕ → ℕ → ℕ → ℕ
 one_if_both a b c d = if a == b && c == d then 1 else 0
 
--- the ion stands in that zone, once, and nowhere else
+-- the ion is in that zone, once, and nowhere else
 pub record StandsIn (trap : TrapValue) (config : List (List Ion)) (ion zone : ℕ) : Type 0 where
   pub there : zone < length trap.zones
   pub once : (place : ℕ) → count_of ion (list_at config place) ≡ one_if place zone
@@ -28,12 +28,12 @@ pub record StandsIn (trap : TrapValue) (config : List (List Ion)) (ion zone : �
 abbrev pub home_of : List PlaceId → ℕ → ℕ
 home_of homes ion = option_map_or (λ (home : PlaceId). home.0) (slice_get homes ion) 0
 
--- for each ion the zone in which it stands, and there are no other ions
+-- for each ion the zone in which it is, and there are no other ions
 pub record AreHomes (trap : TrapValue) (config : List (List Ion)) (homes : List PlaceId) : Type 0 where
   pub stands : (ion : ℕ) → ion < length homes → StandsIn trap config ion (home_of homes ion)
   pub known : (ion place : ℕ) → 1 ≤ count_of ion (list_at config place) → ion < length homes
 
--- one ion went from the one place to the other, and every other ion stands in the place where it stood
+-- one ion went from the one place to the other, and every other ion is in the place where it was
 pub record IsMoved (before after : List (List Ion)) (ion from to : ℕ) : Type 0 where
   pub places : length after ≡ length before
   pub ions : (other place : ℕ) → count_of other (list_at after place) + one_if_both other ion place from

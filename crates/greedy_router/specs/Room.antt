@@ -1,9 +1,10 @@
 -- When a circuit can be routed on a trap, and why it can't.
 use Rattle.std.specs.Prelude.{◌≡◌, ℕ, ◌-◌, ◌<◌, ◌≤◌, ◌⊎◌, true, [], length, slice_index_or, Result, Ok, Err}
 use Rattle.route_find.specs.Walks.{IsReachable}
+use Rattle.circuit_core.specs.Order.{is_performed}
 use Rattle.trap_model.specs.Trap.{limit_of}
 use Rattle.step_rules.specs.Setting.{SettingValue}
-use Rattle.step_rules.specs.Guards.{is_performed, is_able_for}
+use Rattle.step_rules.specs.Guards.{is_able_for}
 use Rattle.greedy_router.specs.declared.has_room.RoomFault.{RoomFault}
 use Rattle.greedy_router.specs.declared.has_room.RoomFault.TheVariants.{Tight, Apart, NoAble, NoMemory}
 

@@ -1,4 +1,4 @@
--- Working notions of private functions: the ions and the need of each operation, and the ways to each zone.
+-- Working notions of private functions: the ions and the need of each operation, and the distances to each zone.
 use Rattle.std.specs.Prelude.{◌≡◌, ℕ, ◌<◌, List, [], ◌∷◌, length, map, Option, Some, None, IfSome, slice_get}
 use Rattle.std.specs.Option.{option_map_or}
 use Rattle.qc_base.specs.declared.ids.Ion.{Ion}

@@ -13,7 +13,7 @@ use Rattle.step_rules.specs.Placement.{start_of}
 use Rattle.step_rules.specs.Guards.{is_able_for, are_among}
 use Rattle.step_rules.specs.Play.{after_steps, one_at_a_time}
 
--- where the ions stand after these actions
+-- where the ions are after these actions
 abbrev pub config_after : SettingValue → List Action → List (List Ion)
 config_after setting actions = after_steps setting.trap (start_of setting.trap setting.placement) (one_at_a_time actions)
 
@@ -27,13 +27,13 @@ abbrev pub is_op : Action → Bool
 is_op (kinds.Op zone op) = true
 is_op _ = false
 
--- the zone is able to perform the operation, and the operation's ions stand in it
+-- the zone is able to perform the operation, and the operation's ions are in it
 pub record IsTogether (setting : SettingValue) (config : List (List Ion)) (zone op : ℕ) : Type 0 where
   pub there : is_zone setting.trap zone ≡ true
   pub able : is_able_for setting zone op ≡ true
   pub ions : are_among setting (list_at config zone) op ≡ true
 
--- after these actions the operation is ready, and its ions stand together in that zone, which is able to perform it
+-- after these actions the operation is ready, and its ions are together in that zone, which is able to perform it
 pub record IsPossible (setting : SettingValue) (actions : List Action) (zone op : ℕ) : Type 0 where
   pub ready : IsReady setting.circuit (ops_of actions) op
   pub together : IsTogether setting (config_after setting actions) zone op
@@ -47,7 +47,7 @@ pub record IsNext (setting : SettingValue) (actions : List Action) (zone op : �
 abbrev pub is_turn : List Action → Bool
 is_turn actions = fold (λ (before : Bool) (action : Action). is_op action) true actions
 
--- Each operation is performed where it is the least ready one whose ions stand together in an able zone, in such a
+-- Each operation is performed where it is the least ready one whose ions are together in an able zone, in such a
 -- zone; and where there is one at the start or after an operation, the next action performs an operation.
 pub record IsGreedy (setting : SettingValue) (actions : List Action) : Type 0 where
   pub next : (k : ℕ) (zone : PlaceId) (op : OpId) → slice_get actions k ≡ Some (kinds.Op zone op)

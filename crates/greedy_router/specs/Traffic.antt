@@ -1,4 +1,4 @@
--- Working notions of private functions: the actions so far, and where the ions stand after them.
+-- Working notions of private functions: the actions so far, and where the ions are after them.
 use Rattle.std.specs.Prelude.{◌≡◌, ℕ, ◌+◌, ◌<◌, ◌≤◌, true, false, Bool, List, [], ◌∷◌, ◌++◌, length, take, All, slice_get, Some}
 use Rattle.qc_base.specs.declared.ids.Ion.{Ion}
 use Rattle.qc_base.specs.declared.ids.OpId.{OpId}
@@ -39,7 +39,7 @@ pub record IsPlayed (setting : SettingValue) (played : Played) : Type 0 where
 abbrev pub MayTravel : SettingValue → List Action → Type 0
 MayTravel setting actions = is_turn actions ≡ true → (zone op : ℕ) → ¬ IsPossible setting actions zone op
 
--- the action changes where ions stand, and is no split of several
+-- the action changes where ions are, and is no split of several
 abbrev pub carries : Action → Bool
 carries (kinds.Op zone op) = false
 carries _ = true

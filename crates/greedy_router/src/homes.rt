@@ -1,4 +1,4 @@
-//! In which zone each ion stands.
+//! In which zone each ion is.
 
 ghost use Rattle.std.specs.Prelude.{◌≡◌, ◌++◌, replicate, IfOk, OnOk, length};
 ghost use Rattle.step_rules.specs.Placement.{IsPlacement, start_of, reading_order};
@@ -18,7 +18,7 @@ fn settle(homes: &mut Vec<PlaceId>, zone: PlaceId, count: usize) -> Result<(), N
     Ok(())
 }
 
-/// For each ion the zone in which it stands at the start.
+/// For each ion the zone in which it is at the start.
 pub(crate) fn homes(alloc: Global, setting: &Setting) -> Result<Vec<PlaceId>, NoMemory>
     requires { IsPlacement setting.now.trap setting.now.circuit setting.now.placement }
     ensures homes { IfOk result (λ homes. AreHomes setting.now.trap (start_of setting.now.trap setting.now.placement) homes.items) }

@@ -3,7 +3,7 @@
 ghost use Rattle.std.specs.Prelude.{◌≡◌, ◌≢◌, ◌<◌, length, true, IfOk, Some, slice_get};
 ghost use Rattle.trap_model.specs.Build.{IsTrap};
 ghost use Rattle.step_rules.specs.Placement.{IsPlacement};
-ghost use Rattle.step_rules.specs.Guards.{is_performed};
+ghost use Rattle.circuit_core.specs.Order.{is_performed};
 ghost use Rattle.greedy_router.specs.Room.{HasRoom};
 ghost use Rattle.greedy_router.specs.Routing.{IsMap, AreWays};
 
@@ -15,7 +15,7 @@ use std::marker::Model;
 use step_rules::Setting;
 use trap_model::Trap;
 
-/// A setting, the ways to each of its zones, and the job of each operation.
+/// A setting, the distances to each of its zones, and the job of each operation.
 #[derive(Drop)]
 pub(crate) struct Map<'a> {
     pub(crate) setting: &'a Setting<'a>,
@@ -35,7 +35,7 @@ impl<'a> Model for Map<'a> {
     ghost view = { λ m. record { setting = m.setting.now; ways = m.ways.items; jobs = m.jobs.items } };
 }
 
-// The ways to each zone, by one search for each.
+// The distances to each zone, by one search for each.
 fn ways(alloc: Global, trap: &Trap) -> Result<Vec<Distances>, NoMemory>
     ensures ways { IfOk result (λ ways. AreWays trap.now (length trap.now.zones) ways.items) }
     ensures trap { IsTrap trap.now }

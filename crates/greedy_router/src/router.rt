@@ -3,7 +3,7 @@
 ghost use Rattle.std.specs.Prelude.{◌≡◌, ◌<◌, ℕ, true, length, All, IfOk, OnOk, MatchOption};
 ghost use Rattle.gate_order.specs.Ready.{AreReady};
 ghost use Rattle.step_rules.specs.Placement.{IsPlacement};
-ghost use Rattle.step_rules.specs.Guards.{is_performed};
+ghost use Rattle.circuit_core.specs.Order.{is_performed};
 ghost use Rattle.step_rules.specs.Play.{Plays, one_at_a_time};
 ghost use Rattle.greedy_router.specs.Room.{HasRoom};
 ghost use Rattle.greedy_router.specs.Routing.{IsMap};
@@ -25,7 +25,7 @@ struct Turn {
     op: OpId,
 }
 
-// The zone where the ions of an operation stand together, where it is able to perform it.
+// The zone where the ions of an operation are together, where it is able to perform it.
 fn meeting(traffic: &Traffic, map: &Map, op: OpId) -> Option<PlaceId>
     requires map { IsMap map.now }
     requires traffic { IsTraffic map.now.setting traffic.now }
@@ -47,7 +47,7 @@ fn meeting(traffic: &Traffic, map: &Map, op: OpId) -> Option<PlaceId>
     Some(zone)
 }
 
-// The least ready operation whose ions stand together in an able zone.
+// The least ready operation whose ions are together in an able zone.
 fn together(traffic: &Traffic, map: &Map, ready: &[OpId]) -> Option<Turn>
     requires map { IsMap map.now }
     requires traffic { IsTraffic map.now.setting traffic.now }
@@ -64,7 +64,7 @@ fn together(traffic: &Traffic, map: &Map, ready: &[OpId]) -> Option<Turn>
     None
 }
 
-// The next operation. Where the ions of none stand together, crowded zones send ions away first, and then the ions of
+// The next operation. Where the ions of none are together, crowded zones send ions away first, and then the ions of
 // the least ready operation are brought together.
 fn next(traffic: &mut Traffic, map: &Map, ready: &[OpId]) -> Result<Turn, NoMemory>
     requires map { IsMap map.now }

@@ -4,7 +4,7 @@ ghost use Rattle.std.specs.Prelude.{◌≡◌, ◌≢◌, ℕ, ◌+◌, ◌<◌,
 ghost use Rattle.ion_chain.specs.Transfer.{list_at};
 ghost use Rattle.trap_model.specs.Trap.{limit_of, is_able};
 ghost use Rattle.step_rules.specs.Placement.{IsPlacement};
-ghost use Rattle.step_rules.specs.Guards.{is_performed};
+ghost use Rattle.circuit_core.specs.Order.{is_performed};
 ghost use Rattle.greedy_router.specs.Room.{HasRoom};
 ghost use Rattle.greedy_router.specs.Routing.{IsMap, IsWithin};
 ghost use Rattle.greedy_router.specs.Places.{count_of, home_of, HasFree, OthersHaveFree, AllHaveFree, IsUncrowded};

@@ -1,4 +1,4 @@
-//! The way of one ion from zone to zone.
+//! The travel of one ion from zone to zone.
 
 ghost use Rattle.std.specs.Prelude.{◌≡◌, ◌<◌, ◌≤◌, true, IsSome, Some, length, slice_get, OnOk};
 ghost use Rattle.trap_model.specs.Build.{IsTrap};

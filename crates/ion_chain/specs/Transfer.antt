@@ -12,7 +12,8 @@ list_at lists place = slice_index_or lists place []
 abbrev pub after_transfer : List (List Ion) → Transfer → List (List Ion)
 after_transfer lists t =
     let source = list_at lists t.from.0 in
-    slice_set (slice_set lists t.from.0 (left t.from_end t.count source)) t.to.0 (joined t.to_end (leaving t.from_end t.count source) (list_at lists t.to.0))
+    slice_set (slice_set lists t.from.0 (left t.from_end t.count source)) t.to.0
+    (joined t.to_end (leaving t.from_end t.count source) (list_at lists t.to.0))
 
 -- the two share no place
 pub record AreApart (s t : Transfer) : Type 0 where

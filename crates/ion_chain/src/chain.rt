@@ -105,7 +105,7 @@ impl Chain {
         }
     }
 
-    // The chain, in whose place stands one without room.
+    // The chain, in whose place is one without room.
     pub(crate) fn lift(&mut self) -> Chain
         ensures { result ≡ self.old }
     {

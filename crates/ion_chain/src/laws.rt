@@ -18,10 +18,11 @@ pub fn passing_rule()
         → outward into (joined into passed target) ≡ outward into target ++ reverse passed }
 {}
 
-/// Passing ions and then as many back the same way leaves both lists as they were.
+/// Passing ions and then as many back through the same ends leaves both lists as they were.
 pub fn passing_back()
     ensures source { (end into : End) (count : ℕ) (source target : List Ion) → count ≤ length source
-        → joined end (leaving into count (joined into (leaving end count source) target)) (left end count source) ≡ source }
+        → joined end (leaving into count (joined into (leaving end count source) target))
+        (left end count source) ≡ source }
     ensures target { (end into : End) (count : ℕ) (source target : List Ion) → count ≤ length source
         → left into count (joined into (leaving end count source) target) ≡ target }
 {}
@@ -40,14 +41,16 @@ pub fn passing_in_parts()
     ensures source { (end : End) (first later : ℕ) (source : List Ion)
         → left end later (left end first source) ≡ left end (first + later) source }
     ensures target { (end into : End) (first later : ℕ) (source target : List Ion)
-        → joined into (leaving end later (left end first source)) (joined into (leaving end first source) target)
+        → joined into (leaving end later (left end first source))
+        (joined into (leaving end first source) target)
         ≡ joined into (leaving end (first + later) source) target }
 {}
 
 /// No ion is lost and none is made.
 pub fn nothing_lost()
     ensures { (end into : End) (count : ℕ) (source target : List Ion)
-        → IsPermutation (source ++ target) (left end count source ++ joined into (leaving end count source) target) }
+        → IsPermutation (source ++ target)
+        (left end count source ++ joined into (leaving end count source) target) }
 {}
 
 /// A transfer changes the lists of its two places and of no other.
@@ -65,5 +68,6 @@ pub fn transfer_between()
 /// Of two transfers that share no place, it doesn't matter which comes first.
 pub fn transfers_in_either_order()
     ensures { (lists : List (List Ion)) (first second : Transfer) → AreApart first second
-        → after_transfer (after_transfer lists first) second ≡ after_transfer (after_transfer lists second) first }
+        → after_transfer (after_transfer lists first) second
+        ≡ after_transfer (after_transfer lists second) first }
 {}

@@ -30,7 +30,7 @@ after_first a b x xs ys h so = elim (cases_eq x.0 b.0) [
   ]
 ]
 
--- without a third qubit they stand in the same order
+-- without a third qubit they are in the same order
 kept_order : (q a b : Qubit) (xs : List Qubit) → q.0 ≢ a.0 → q.0 ≢ b.0 → place_of a xs < place_of b xs → place_of a (filter (is_other q) xs) < place_of b (filter (is_other q) xs)
 kept_order q a b [] no_a no_b h = absurd (omega (arith, h))
 kept_order q a b (x ∷ xs) no_a no_b h = elim (cases_eq x.0 q.0) [

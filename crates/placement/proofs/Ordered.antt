@@ -10,7 +10,7 @@ use Rattle.circuit_core.specs.declared.op.Op.{Op}
 use Rattle.circuit_core.specs.declared.op.Op.TheVariants.{U, Cx, Opaque, Measure, Reset, Barrier}
 use Rattle.circuit_core.specs.Circuit.{CircuitValue, qubit_count, IsCircuit, IsOpOf}
 use Rattle.circuit_core.specs.Op.{qubits_of, one_or_two}
-use Rattle.circuit_core.specs.Deciding.{stands}
+use Rattle.circuit_core.specs.Deciding.{is_listed}
 use Rattle.step_rules.specs.Placement.{times}
 use Rattle.placement.specs.Filling.{qubit_of, declared_qubits}
 use Rattle.placement.specs.FirstUse.{two_or_none, operands, by_first_use, without_repeats}
@@ -65,7 +65,7 @@ uses_below circuit (op ∷ ops) all =
     let P : Qubit → Type 0 = λ q. q.0 < qubit_count circuit in
     All-append P (operands op) (flat_map operands ops) (operands_below P op (All-head (IsOpOf circuit) op ops all).qubits) (uses_below circuit ops (All-tail (IsOpOf circuit) op ops all))
 
-stands_in : (first count k : ℕ) → first ≤ k → k < first + count → stands k (row first count) ≡ true
+stands_in : (first count k : ℕ) → first ≤ k → k < first + count → is_listed k (row first count) ≡ true
 stands_in first zero k low high = absurd (omega arith)
 stands_in first (suc count) k low high = elim (cases_eq first k) [
   | inl same ↦ rw (eq-eqb first k same) refl
@@ -76,10 +76,10 @@ or_true : (a b : Bool) → b ≡ true → (a || b) ≡ true
 or_true true b e = refl
 or_true false b e = e
 
-all_stand : (circuit : CircuitValue) (uses : List Qubit) (k : ℕ) → k < qubit_count circuit → stands k (uses ++ declared_qubits circuit) ≡ true
+all_stand : (circuit : CircuitValue) (uses : List Qubit) (k : ℕ) → k < qubit_count circuit → is_listed k (uses ++ declared_qubits circuit) ≡ true
 all_stand circuit uses k h =
     list_any-append (λ (q : Qubit). q.0 == k) uses (declared_qubits circuit)
-    ∙ or_true (stands k uses) (stands k (declared_qubits circuit)) (stands_in 0 (qubit_count circuit) k (omega arith) (omega arith))
+    ∙ or_true (is_listed k uses) (is_listed k (declared_qubits circuit)) (stands_in 0 (qubit_count circuit) k (omega arith) (omega arith))
 
 pub first_use_order : (circuit : CircuitValue) → IsCircuit circuit → IsOrder circuit (by_first_use circuit)
 first_use_order circuit is =

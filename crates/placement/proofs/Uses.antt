@@ -7,14 +7,14 @@ use Rattle.std.proofs.lemmas.List.{append-nil}
 use Rattle.std.proofs.lemmas.List.Folds.{list_any-append}
 use Rattle.std.proofs.lemmas.List.Elements.{All-nil, All-cons, All-head, All-tail, All-filter, filter-append}
 use Rattle.qc_base.specs.declared.ids.Qubit.{Qubit}
-use Rattle.circuit_core.specs.Deciding.{stands}
+use Rattle.circuit_core.specs.Deciding.{is_listed}
 use Rattle.step_rules.specs.Placement.{times}
 use Rattle.step_rules.specs.Flags.{AreFlags}
 use Rattle.step_rules.proofs.Reading.{flags_grown}
 use Rattle.placement.specs.FirstUse.{is_other, without_repeats}
 use Rattle.placement.specs.Orders.{AreUsed}
 
--- ---- each stands once
+-- ---- each occurs once
 
 times_dropped : (q : Qubit) (xs : List Qubit) → times q.0 (filter (is_other q) xs) ≡ 0
 times_dropped q [] = refl
@@ -32,8 +32,8 @@ times_kept k q (x ∷ xs) apart = elim (cases_eq x.0 q.0) [
   | inr other ↦ (let there : (x.0 == q.0) ≡ false = ne_eqb x.0 q.0 other in rw there (omega (arith, times_kept k q xs apart)))
 ]
 
--- a qubit that is used stands once, and any other never
-pub times_once : (k : ℕ) (uses : List Qubit) → times k (without_repeats uses) ≡ cond (stands k uses) 1 0
+-- a qubit that is used occurs once, and any other never
+pub times_once : (k : ℕ) (uses : List Qubit) → times k (without_repeats uses) ≡ cond (is_listed k uses) 1 0
 times_once k [] = refl
 times_once k (q ∷ uses) = elim (cases_eq q.0 k) [
   | inl same ↦ (let here : (q.0 == k) ≡ true = eq-eqb q.0 k same in
@@ -50,7 +50,7 @@ all_used P (q ∷ uses) all =
 
 -- ---- one more use
 
-stands_more : (n : ℕ) (uses : List Qubit) (q : Qubit) → stands n (uses ++ q ∷ []) ≡ (stands n uses || ((q.0 == n) || false))
+stands_more : (n : ℕ) (uses : List Qubit) (q : Qubit) → is_listed n (uses ++ q ∷ []) ≡ (is_listed n uses || ((q.0 == n) || false))
 stands_more n uses q = list_any-append (λ (qubit : Qubit). qubit.0 == n) uses (q ∷ [])
 
 or_here : (a b : Bool) → (b ≡ true → a ≡ true) → (a || (b || false)) ≡ a
@@ -58,9 +58,9 @@ or_here true b so = refl
 or_here false true so = sym (so refl)
 or_here false false so = refl
 
-stands_again : (n : ℕ) (uses : List Qubit) (q : Qubit) → stands q.0 uses ≡ true → stands n (uses ++ q ∷ []) ≡ stands n uses
+stands_again : (n : ℕ) (uses : List Qubit) (q : Qubit) → is_listed q.0 uses ≡ true → is_listed n (uses ++ q ∷ []) ≡ is_listed n uses
 stands_again n uses q there =
-    stands_more n uses q ∙ or_here (stands n uses) (q.0 == n) (λ e. subst (λ (m : ℕ). stands m uses ≡ true) (eqb-true q.0 n e) there)
+    stands_more n uses q ∙ or_here (is_listed n uses) (q.0 == n) (λ e. subst (λ (m : ℕ). is_listed m uses ≡ true) (eqb-true q.0 n e) there)
 
 or_true : (a : Bool) → (a || true) ≡ true
 or_true true = refl
@@ -77,20 +77,20 @@ one_more first q rest = elim (cases_eq q.0 first.0) [
 ]
 
 -- a use adds its qubit, unless that is used before
-pub used_more : (uses : List Qubit) (q : Qubit) → without_repeats (uses ++ q ∷ []) ≡ cond (stands q.0 uses) (without_repeats uses) (without_repeats uses ++ q ∷ [])
+pub used_more : (uses : List Qubit) (q : Qubit) → without_repeats (uses ++ q ∷ []) ≡ cond (is_listed q.0 uses) (without_repeats uses) (without_repeats uses ++ q ∷ [])
 used_more [] q = refl
-used_more (first ∷ uses) q = elim (cases_Bool (stands q.0 uses)) [
+used_more (first ∷ uses) q = elim (cases_Bool (is_listed q.0 uses)) [
   | inl there ↦ rw (used_more uses q, there, or_true (first.0 == q.0)) refl
   | inr new ↦ rw (used_more uses q, new) (one_more first q (without_repeats uses))
 ]
 
-pub added_again : (qubits : List Qubit) (flags : List Bool) (uses : List Qubit) (q : Qubit) → stands q.0 uses ≡ true → AreUsed qubits flags uses → AreUsed qubits flags (uses ++ q ∷ [])
+pub added_again : (qubits : List Qubit) (flags : List Bool) (uses : List Qubit) (q : Qubit) → is_listed q.0 uses ≡ true → AreUsed qubits flags uses → AreUsed qubits flags (uses ++ q ∷ [])
 added_again qubits flags uses q there are = record {
   order = are.order ∙ sym (used_more uses q ∙ ap (λ (b : Bool). cond b (without_repeats uses) (without_repeats uses ++ q ∷ [])) there);
   flagged = λ n h. are.flagged n h ∙ sym (stands_again n uses q there);
 }
 
-pub added_new : (qubits : List Qubit) (flags : List Bool) (uses : List Qubit) (q : Qubit) → q.0 < length flags → stands q.0 uses ≡ false → AreUsed qubits flags uses → AreUsed (qubits ++ q ∷ []) (set flags q.0 true) (uses ++ q ∷ [])
+pub added_new : (qubits : List Qubit) (flags : List Bool) (uses : List Qubit) (q : Qubit) → q.0 < length flags → is_listed q.0 uses ≡ false → AreUsed qubits flags uses → AreUsed (qubits ++ q ∷ []) (set flags q.0 true) (uses ++ q ∷ [])
 added_new qubits flags uses q h new are =
     let first : AreFlags flags (uses ++ []) = subst (AreFlags flags) (sym (append-nil uses)) are.flagged in
     record {

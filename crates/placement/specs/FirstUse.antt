@@ -23,7 +23,7 @@ operands (Barrier qubits) = []
 abbrev pub is_other : Qubit → Qubit → Bool
 is_other qubit other = not (other.0 == qubit.0)
 
--- each qubit once, where it stands first
+-- each qubit once, where it is first
 abbrev pub without_repeats : List Qubit → List Qubit
 without_repeats [] = []
 without_repeats (qubit ∷ qubits) = qubit ∷ filter (is_other qubit) (without_repeats qubits)

@@ -12,7 +12,7 @@ use Rattle.placement.specs.Filling.{qubit_of}
 abbrev pub unknown : ℕ → List ℕ → PlaceFault
 unknown zone label = UnknownQubit (record { 0 = zone }) label
 
--- the qubit of a label that stands in that zone
+-- the qubit of a label that is in that zone
 abbrev pub qubit_named : CircuitValue → ℕ → List ℕ → Result Qubit PlaceFault
 qubit_named circuit zone label = ok_or (option_map qubit_of (labelled circuit label)) (unknown zone label)
 

@@ -37,7 +37,7 @@ floor_of factor = 4
 floor_of power = 4
 floor_of atom = 5
 
--- an expression of a level stands in frames that hold less strongly than that
+-- an expression of a level is in frames that hold less strongly than that
 abbrev pub ceiling_of : Level → ℕ
 ceiling_of expression = 2
 ceiling_of term = 3

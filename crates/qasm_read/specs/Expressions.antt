@@ -52,7 +52,7 @@ run (p ∷ rest) (there frames tree) = elim (operator_of p.token) [
 abbrev pub next_operator : State → Option BinOp
 next_operator st = elim st.placed [ [] ↦ None | p ∷ rest ↦ operator_of p.token ]
 
--- What a function returned and left goes on as the tokens do in that mode, unless memory ran out.
+-- What a function returned and left continues as the tokens do in that mode, unless memory ran out.
 abbrev pub Continues : Result (Option Tree) Stop → State → Mode → State → List Frame → Type 0
 Continues (Ok tree) before mode now frames = (run before.placed mode ≡ run now.placed (there frames tree)) × (now.large ≡ before.large) × (length now.placed < length before.placed)
 Continues (Err NoMemory) before mode now frames = Unit {0}

@@ -7,7 +7,7 @@ use Rattle.qasm_read.specs.declared.frame.Frame.TheVariants.{Parenthesis, Functi
 use Rattle.qasm_read.specs.declared.tree.Tree.{Tree}
 use Rattle.qasm_read.specs.Trees.{negated, applied, joined}
 
--- how strongly an operator pulls at what stands before it; the end of an expression pulls at 1
+-- how strongly an operator pulls at what is before it; the end of an expression pulls at 1
 abbrev pub strength_of : BinOp → ℕ
 strength_of Add = 2
 strength_of Sub = 2

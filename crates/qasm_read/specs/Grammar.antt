@@ -44,7 +44,7 @@ word_of function.Exp = token.Keyword word.Exp
 word_of function.Ln = token.Keyword word.Ln
 word_of function.Sqrt = token.Keyword word.Sqrt
 
--- the level of an operator, and what may stand to its left and to its right
+-- the level of an operator, and what may be to its left and to its right
 abbrev pub whole_of : BinOp → Level
 whole_of Add = expression
 whole_of Sub = expression

@@ -54,7 +54,7 @@ fn tree<T: TokenSource + Drop>(alloc: Global, tokens: &mut Tokens<T>) -> Result<
     }
 }
 
-/// Reads what stands before the next whole part of an expression, and that part.
+/// Reads what is before the next whole part of an expression, and that part.
 #[tactic(auto, using(crate::proofs::Runs::taken_by, crate::proofs::Runs::wanted_none, crate::proofs::Runs::wanted_frame, crate::proofs::Runs::wanted_whole, crate::proofs::Runs::wanted_nothing, crate::proofs::Runs::wanted_function, crate::proofs::Runs::wanted_unopened))]
 fn operand<T: TokenSource + Drop>(
     tokens: &mut Tokens<T>,

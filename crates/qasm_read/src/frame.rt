@@ -1,4 +1,4 @@
-//! What an expression that is read stands in.
+//! What is around an expression that is read.
 
 ghost use Rattle.std.specs.Prelude.{◌≡◌, IfOk};
 ghost use Rattle.qasm_read.specs.Frames.{strength_of, put_in};
@@ -8,7 +8,7 @@ use circuit_core::{BinOp, FunName};
 use qc_base::NoMemory;
 use std::alloc::Global;
 
-/// What stands before an expression that belongs to it.
+/// What is before an expression that belongs to it.
 #[derive(Debug, Drop)]
 pub enum Frame {
     Parenthesis,

@@ -19,7 +19,7 @@ use Rattle.qasm_tokens.specs.declared.token.Sign.TheVariants.{Arrow, Equals}
 use Rattle.qasm_tokens.specs.Pieces.{begins, is_space, is_word_byte, is_string_byte, is_comment_byte, comment_len, word_len, integer_len, sign_len, exponent_len, fraction_len, real_len, string_len, sign_of_byte, sign_piece, piece_of_length, ◌or◌, piece_of}
 use Rattle.qasm_tokens.specs.Scan.{HasShape}
 
--- a piece stands at the front of a text
+-- a piece is at the front of a text
 pub record IsPiece (text : List ℕ) (piece : Piece) : Type 0 where
   pub some : 0 < piece.length
   pub within : piece.length ≤ length text

@@ -402,7 +402,7 @@ real_at_least xs rest (inr e) =
     let len : length xs ≡ length e.whole + length e.exponent = omega (arith, ap length e.made, length-append e.whole e.exponent) in
     rw (whole, len) (exponent_after e.whole e.exponent rest e.whole_digits e.some e.is_exponent)
 
--- a real goes on after its first digits
+-- a real continues after its first digits
 pub real_covers : (text : List ℕ) → 0 < real_len text → prefix_len is_ascii_digit text ≤ real_len text
 unfolding real_len
 real_covers text h = grind (arith, common_steps, h)

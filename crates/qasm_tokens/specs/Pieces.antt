@@ -1,4 +1,4 @@
--- What stands at the front of a circuit file's text: white space, a comment or a token.
+-- What is at the front of a circuit file's text: white space, a comment or a token.
 -- The language is OpenQASM 2.0 (arXiv:1707.03429, the appendix on its grammar), the forms of its tokens are this project's profile.
 use Rattle.std.specs.Prelude.{ℕ, ◌+◌, ◌==◌, nat_eq, nat_lt, Bool, not, ◌&&◌, ◌||◌, List, [], ◌∷◌, length, drop, codes, Option, Some, None, if◌then◌else◌}
 use Rattle.std.specs.Char.{is_ascii_digit, is_ascii_alphabetic, is_ascii_alphanumeric}
@@ -108,7 +108,7 @@ abbrev pub ◌or◌ : Option Piece → Option Piece → Option Piece
 None or piece = piece
 (Some first) or piece = Some first
 
--- The piece at the front of a text. A form stands before those of which it may be longer, so the piece is the longest.
+-- The piece at the front of a text. A form is before those of which it may be longer, so the piece is the longest.
 unfoldable pub piece_of : List ℕ → Option Piece
 piece_of text = piece_of_length Gap (prefix_len is_space text)
     or (piece_of_length Gap (comment_len text)

@@ -1,4 +1,4 @@
-//! What stands at the front of a text.
+//! What is at the front of a text.
 
 ghost use Rattle.std.specs.Prelude.{◌≡◌, ◌≤◌, ℕ, length};
 ghost use Rattle.std.specs.List.{prefix_len};
@@ -26,7 +26,7 @@ pub(crate) struct Piece {
     pub(crate) length: usize,
 }
 
-/// How many digits stand at the front.
+/// How many digits are at the front.
 pub(crate) fn digits_len(text: &[u8]) -> usize
     ensures exact { result ≡ prefix_len is_ascii_digit text.now }
     ensures within { result ≤ length text.now }
@@ -34,7 +34,7 @@ pub(crate) fn digits_len(text: &[u8]) -> usize
     text.iter().take_while(|b| b.is_ascii_digit()).count()
 }
 
-/// How much white space stands at the front.
+/// How much white space is at the front.
 fn space_len(text: &[u8]) -> usize
     ensures exact { result ≡ prefix_len is_space text.now }
     ensures within { result ≤ length text.now }
@@ -44,7 +44,7 @@ fn space_len(text: &[u8]) -> usize
         .count()
 }
 
-/// How many bytes stand before the first line feed.
+/// How many bytes are before the first line feed.
 fn line_len(text: &[u8]) -> usize
     ensures exact { result ≡ prefix_len is_comment_byte text.now }
     ensures within { result ≤ length text.now }
@@ -65,7 +65,7 @@ fn comment_len(text: &[u8]) -> usize
     }
 }
 
-/// How many bytes of a word stand at the front.
+/// How many bytes of a word are at the front.
 fn word_bytes_len(text: &[u8]) -> usize
     ensures exact { result ≡ prefix_len is_word_byte text.now }
     ensures within { result ≤ length text.now }
@@ -158,7 +158,7 @@ pub(crate) fn real_len(text: &[u8]) -> usize
     }
 }
 
-/// How many bytes stand before the first quote or line feed.
+/// How many bytes are before the first quote or line feed.
 fn string_bytes_len(text: &[u8]) -> usize
     ensures exact { result ≡ prefix_len is_string_byte text.now }
     ensures within { result ≤ length text.now }

@@ -11,6 +11,7 @@ use Rattle.qc_base.specs.declared.ids.Qubit.{Qubit}
 use Rattle.circuit_core.specs.declared.op.Op.{Op}
 use Rattle.circuit_core.specs.Circuit.{CircuitValue}
 use Rattle.circuit_core.specs.Op.{is_barrier}
+use Rattle.circuit_core.specs.Order.{is_performed}
 use Rattle.trap_model.specs.Trap.{TrapValue, place_count, is_zone}
 use Rattle.trap_model.specs.Build.{IsTrap}
 use Rattle.trap_model.specs.Channels.{split_channel, move_channel, cross_channel, merge_channel}
@@ -22,7 +23,7 @@ use Rattle.step_rules.specs.declared.action.Rule.TheVariants as rules
 use Rattle.step_rules.specs.Placement.{IsPlacement, start_of}
 use Rattle.step_rules.specs.Setting.{SettingValue, setting_of}
 use Rattle.step_rules.specs.ActionChannel.{target_limit}
-use Rattle.step_rules.specs.Guards.{Guard, guard, first_broken, is_slot, is_junction, is_performed, split_guards, move_guards, cross_guards, merge_guards, op_guards, Passes}
+use Rattle.step_rules.specs.Guards.{Guard, guard, first_broken, is_slot, is_junction, split_guards, move_guards, cross_guards, merge_guards, op_guards, Passes}
 use Rattle.step_rules.specs.Steps.{after_step}
 use Rattle.step_rules.specs.Config.{IsWithinLimits}
 use Rattle.step_rules.specs.Play.{AreLegal, Plays}

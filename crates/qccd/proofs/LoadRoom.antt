@@ -7,6 +7,7 @@ use Rattle.circuit_core.specs.declared.op.Op.TheVariants as ops
 use Rattle.circuit_core.specs.Op.{is_barrier}
 use Rattle.std.specs.Prelude.{not, slice_get}
 use Rattle.std.specs.Option.{option_map_or, option_and_then}
+use Rattle.circuit_core.specs.Order.{is_performed}
 use Rattle.trap_model.specs.declared.channel.Channel.{Channel}
 use Rattle.trap_model.specs.declared.channel.Kind.TheVariants.{Split, Merge}
 use Rattle.trap_model.specs.declared.parts.Need.{Need}
@@ -21,7 +22,7 @@ use Rattle.step_rules.specs.Tight.{IsTight}
 use Rattle.schedule_text.specs.Text.{schedule_text}
 use Rattle.schedule_report.specs.Lines.{load_lines}
 use Rattle.qccd.specs.Work.{IsLoaded, IsRouted}
-use Rattle.step_rules.specs.Guards.{is_performed, is_able_for}
+use Rattle.step_rules.specs.Guards.{is_able_for}
 use Rattle.placement.specs.declared.fault.PlaceFault.{PlaceFault}
 use Rattle.placement.specs.declared.rule.PlaceRule.TheVariants.{Declared}
 use Rattle.placement.specs.Placing.{place_by}

@@ -1,4 +1,4 @@
-//! Shortest ways through a trap: walks of channels, and distances.
+//! Shortest paths through a trap: walks of channels, and distances.
 #![tactic(auto)]
 
 mod distances;

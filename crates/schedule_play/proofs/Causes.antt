@@ -4,13 +4,14 @@ use Rattle.std.specs.Prelude.{All, IsTrue, slice_get, ◌⊎◌, ◌||◌}
 use Rattle.std.proofs.lemmas.Bool.{cases_lt, eqb-true, false_from_ne_true}
 use Rattle.std.proofs.lemmas.Option.{none-some, same_Some, slice_get_within, get_or_from_slice_get}
 use Rattle.std.proofs.lemmas.List.{length-take-le, take-take}
+use Rattle.circuit_core.specs.Order.{is_performed}
 use Rattle.trap_model.specs.Trap.{TrapValue}
 use Rattle.step_rules.specs.declared.action.Action.{Action}
 use Rattle.step_rules.specs.declared.action.Action.TheVariants as actions
 use Rattle.step_rules.specs.declared.action.Rule.{Rule}
 use Rattle.step_rules.specs.Setting.{SettingValue}
 use Rattle.step_rules.specs.Steps.{AreApart}
-use Rattle.step_rules.specs.Guards.{Passes, is_performed}
+use Rattle.step_rules.specs.Guards.{Passes}
 use Rattle.step_rules.specs.Tight.{Meet}
 use Rattle.step_rules.specs.Play.{performs, is_done}
 use Rattle.schedule_play.specs.declared.fault.PlayFault.{PlayFault}

@@ -9,7 +9,7 @@ use Rattle.std.proofs.lemmas.List.{append-nil}
 use Rattle.qc_base.specs.declared.ids.OpId.{OpId}
 use Rattle.qc_base.specs.declared.ids.PlaceId.{PlaceId}
 use Rattle.circuit_core.specs.Circuit.{CircuitValue}
-use Rattle.circuit_core.specs.Order.{Forced}
+use Rattle.circuit_core.specs.Order.{Forced, is_performed}
 use Rattle.circuit_core.specs.Deciding.{is_forced}
 use Rattle.circuit_core.proofs.Forcing.{forced_iff}
 use Rattle.trap_model.specs.Trap.{TrapValue}
@@ -19,7 +19,7 @@ use Rattle.step_rules.specs.declared.action.Rule.{Rule}
 use Rattle.step_rules.specs.Footprint.{same_spot, is_worked_on}
 use Rattle.step_rules.specs.Setting.{SettingValue}
 use Rattle.step_rules.specs.Steps.{Spot, place, junction, footprint, AreApart}
-use Rattle.step_rules.specs.Guards.{guards, first_broken, is_performed}
+use Rattle.step_rules.specs.Guards.{guards, first_broken}
 use Rattle.step_rules.specs.Tight.{Meet}
 use Rattle.step_rules.proofs.Meeting.{met, meets}
 use Rattle.step_rules.specs.Play.{performs, is_done}

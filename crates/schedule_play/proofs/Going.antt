@@ -4,10 +4,9 @@ use Rattle.std.specs.Prelude.{IsTrue, slice_get}
 use Rattle.std.proofs.Math.Seq.{take-append_seam}
 use Rattle.std.proofs.lemmas.Bool.{cases_Bool, cases_lt}
 use Rattle.std.proofs.lemmas.List.{take-append-le, get_or_past, take-take}
-use Rattle.circuit_core.specs.Order.{Forced}
+use Rattle.circuit_core.specs.Order.{Forced, is_performed}
 use Rattle.step_rules.specs.declared.action.Action.{Action}
 use Rattle.step_rules.specs.Setting.{SettingValue}
-use Rattle.step_rules.specs.Guards.{is_performed}
 use Rattle.step_rules.specs.Play.{is_done}
 use Rattle.schedule_play.specs.Judging.{Before, before_of, Owes, OwesFirst, IsWell, GoWell}
 use Rattle.schedule_play.specs.Progress.{AreFlags, IsOwed, IsOwedFirst, StepIsWell}

@@ -12,6 +12,7 @@ use Rattle.qc_base.specs.declared.ids.End.TheVariants as ends
 use Rattle.circuit_core.specs.Circuit.{CircuitValue}
 use Rattle.circuit_core.specs.declared.op.Op.{Op}
 use Rattle.circuit_core.specs.Op.{is_barrier}
+use Rattle.circuit_core.specs.Order.{is_performed}
 use Rattle.trap_model.specs.Trap.{TrapValue, is_zone}
 use Rattle.ion_chain.specs.Transfer.{list_at}
 use Rattle.step_rules.specs.declared.action.Rule.{Rule}
@@ -22,13 +23,13 @@ use Rattle.step_rules.specs.declared.spots.Footprint.{Footprint}
 use Rattle.step_rules.specs.Footprint.{spots}
 use Rattle.step_rules.specs.Setting.{SettingValue}
 use Rattle.step_rules.specs.Steps.{footprint, AreApart}
-use Rattle.step_rules.specs.Guards.{Guard, guard, first_broken, Passes, is_performed, is_able_for, are_among}
+use Rattle.step_rules.specs.Guards.{Guard, guard, first_broken, Passes, is_able_for, are_among}
 use Rattle.step_rules.specs.Play.{performs}
 use Rattle.step_rules.proofs.Meets.{meet_iff}
 use Rattle.schedule_play.specs.declared.fault.PlayFault.{PlayFault}
 use Rattle.schedule_play.specs.declared.fault.PlayFault.TheVariants as faults
 use Rattle.schedule_play.specs.Judging.{Before, config_at, was_done, Fits, MeetsFirst, IsWell, Owes, OwesFirst, Offends}
-use Rattle.schedule_play.specs.Progress.{do_meet, NoneMeets, MeetsAt, OpIsWell, OpOffends, IsOwed, Stands}
+use Rattle.schedule_play.specs.Progress.{do_meet, NoneMeets, MeetsAt, OpIsWell, OpOffends, IsOwed, IsStateBefore}
 use Rattle.schedule_play.proofs.Lists.{slice_taken}
 use Rattle.schedule_play.proofs.Going.{owed_by, owes_first_by}
 
@@ -121,17 +122,17 @@ pub passes_at : (setting : SettingValue) (before : Before) (places : List (List 
 passes_at setting before places given action config same passes = subst (λ (c : List (List Ion)). Passes setting c action) config (subst (Passes setting places) same passes)
 
 pub is_shared : (setting : SettingValue) (before : Before) (places : List (List Ion)) (early marks : List Bool) (footprints : List Footprint) (works : Footprint) (given action : Action) (first second number : ℕ) →
-    Stands setting before places early marks footprints → given ≡ action → Passes setting places given → spots works ≡ footprint setting.trap given → MeetsAt footprints works first → number ≡ length before.steps + 1 → second ≡ length before.actions + 1
+    IsStateBefore setting before places early marks footprints → given ≡ action → Passes setting places given → spots works ≡ footprint setting.trap given → MeetsAt footprints works first → number ≡ length before.steps + 1 → second ≡ length before.actions + 1
     → Offends setting before action (faults.Shared number (first + 1) second)
-is_shared setting before places early marks footprints works given action first second number stands same passes is meets step_is second_is = (
+is_shared setting before places early marks footprints works given action first second number state same passes is meets step_is second_is = (
   (step_is, second_is),
-  passes_at setting before places given action stands.config same passes,
-  meets_first setting.trap footprints before.actions works action first stands.footprints (is ∙ ap (footprint setting.trap) same) meets,
+  passes_at setting before places given action state.config same passes,
+  meets_first setting.trap footprints before.actions works action first state.footprints (is ∙ ap (footprint setting.trap) same) meets,
 )
 
 -- nothing is wrong but maybe with the operation
 pub record Alone (setting : SettingValue) (before : Before) (places : List (List Ion)) (early marks : List Bool) (footprints : List Footprint) (works : Footprint) (given action : Action) : Type 0 where
-  pub stands : Stands setting before places early marks footprints
+  pub state : IsStateBefore setting before places early marks footprints
   pub same : given ≡ action
   pub passes : Passes setting places given
   pub is : spots works ≡ footprint setting.trap given
@@ -139,8 +140,8 @@ pub record Alone (setting : SettingValue) (before : Before) (places : List (List
 
 pub fits : (setting : SettingValue) (before : Before) (places : List (List Ion)) (early marks : List Bool) (footprints : List Footprint) (works : Footprint) (given action : Action) → Alone setting before places early marks footprints works given action → Fits setting before action
 fits setting before places early marks footprints works given action alone = record {
-  passes = passes_at setting before places given action alone.stands.config alone.same alone.passes;
-  apart = all_apart setting.trap footprints before.actions works action alone.stands.footprints (alone.is ∙ ap (footprint setting.trap) alone.same) alone.none;
+  passes = passes_at setting before places given action alone.state.config alone.same alone.passes;
+  apart = all_apart setting.trap footprints before.actions works action alone.state.footprints (alone.is ∙ ap (footprint setting.trap) alone.same) alone.none;
 }
 
 some_op : (o : Option Op) → option_map_or (λ (op : Op). not (is_barrier op)) o false ≡ true → (op : Op) × (o ≡ Some op)
@@ -190,9 +191,9 @@ performs_it : (zone : PlaceId) (op : OpId) (given action : Action) → given ≡
 performs_it zone op given action is same = ap (performs op.0) (sym same ∙ is) ∙ eq-eqb op.0 op.0 refl
 
 -- the flag of the operation says whether it was performed
-was_flagged : (setting : SettingValue) (before : Before) (places : List (List Ion)) (early marks : List Bool) (footprints : List Footprint) (op : ℕ) → Stands setting before places early marks footprints → is_performed setting.circuit op ≡ true
+was_flagged : (setting : SettingValue) (before : Before) (places : List (List Ion)) (early marks : List Bool) (footprints : List Footprint) (op : ℕ) → IsStateBefore setting before places early marks footprints → is_performed setting.circuit op ≡ true
     → get_or marks op false ≡ was_done before op
-was_flagged setting before places early marks footprints op stands performed = stands.done.each op (omega (arith, performed_within setting.circuit op performed, stands.done.len))
+was_flagged setting before places early marks footprints op state performed = state.done.each op (omega (arith, performed_within setting.circuit op performed, state.done.len))
 
 pub well_op : (setting : SettingValue) (before : Before) (places : List (List Ion)) (early marks : List Bool) (footprints : List Footprint) (works : Footprint) (given action : Action) (zone : PlaceId) (op : OpId) →
     Alone setting before places early marks footprints works given action → given ≡ actions.Op zone op → OpIsWell setting.circuit early marks op → IsWell setting before action
@@ -203,11 +204,11 @@ well_op setting before places early marks footprints works given action zone op 
       passes = it.passes;
       apart = it.apart;
       none_owed = λ k needs performs owes.
-          let owed = owed_by setting before early k needs alone.stands.earlier owes in
+          let owed = owed_by setting before early k needs alone.state.earlier owes in
           well.0 needs (subst (λ (n : ℕ). IsOwed setting.circuit early n needs) (sym (performs_that zone op given action k is alone.same performs)) owed);
       first = λ k performs.
           subst (λ (n : ℕ). was_done before n ≡ false) (performs_that zone op given action k is alone.same performs)
-          (sym (was_flagged setting before places early marks footprints op.0 alone.stands performed) ∙ well.1);
+          (sym (was_flagged setting before places early marks footprints op.0 alone.state performed) ∙ well.1);
     }
 
 pub offends_op : (setting : SettingValue) (before : Before) (places : List (List Ion)) (early marks : List Bool) (footprints : List Footprint) (works : Footprint) (given action : Action) (zone : PlaceId) (op : OpId) (number : ℕ) (fault : PlayFault) →
@@ -222,7 +223,7 @@ offends_op setting before places early marks footprints works given action zone 
       offends.0 ∙ step_is,
       it,
       subst (λ (n : ℕ). performs n action ≡ true) same (performs_it zone op given action is alone.same),
-      subst (λ (n : ℕ). OwesFirst setting before n needs.0) same (owes_first_by setting before early op.0 needs.0 alone.stands.earlier offends.2),
+      subst (λ (n : ℕ). OwesFirst setting before n needs.0) same (owes_first_by setting before early op.0 needs.0 alone.state.earlier offends.2),
     )
 offends_op setting before places early marks footprints works given action zone op number (faults.Twice step twice) alone is step_is offends =
     let it = fits setting before places early marks footprints works given action alone in
@@ -231,6 +232,6 @@ offends_op setting before places early marks footprints works given action zone 
       offends.0 ∙ step_is,
       it,
       subst (λ (n : ℕ). performs n action ≡ true) same (performs_it zone op given action is alone.same),
-      λ needs owes. offends.2 needs (owed_by setting before early op.0 needs alone.stands.earlier (subst (λ (n : ℕ). Owes setting before n needs) (sym same) owes)),
-      subst (λ (n : ℕ). was_done before n ≡ true) same (sym (was_flagged setting before places early marks footprints op.0 alone.stands performed) ∙ offends.3),
+      λ needs owes. offends.2 needs (owed_by setting before early op.0 needs alone.state.earlier (subst (λ (n : ℕ). Owes setting before n needs) (sym same) owes)),
+      subst (λ (n : ℕ). was_done before n ≡ true) same (sym (was_flagged setting before places early marks footprints op.0 alone.state performed) ∙ offends.3),
     )

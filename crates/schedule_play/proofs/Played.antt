@@ -10,19 +10,19 @@ use Rattle.std.proofs.Math.Bool.{or-false}
 use Rattle.std.proofs.lemmas.List.Sums.{fold-append}
 use Rattle.qc_base.specs.Counting.{how_many}
 use Rattle.qc_base.specs.declared.ids.Ion.{Ion}
-use Rattle.circuit_core.specs.Order.{Forced}
+use Rattle.circuit_core.specs.Order.{Forced, is_performed}
 use Rattle.step_rules.specs.declared.action.Action.{Action}
 use Rattle.step_rules.specs.declared.action.Action.TheVariants as actions
 use Rattle.step_rules.specs.Placement.{start_of}
 use Rattle.step_rules.specs.Setting.{SettingValue}
 use Rattle.step_rules.specs.Steps.{AreApart, IsLegal, after_step}
-use Rattle.step_rules.specs.Guards.{Passes, PassesTransport, is_performed}
+use Rattle.step_rules.specs.Guards.{Passes, PassesTransport}
 use Rattle.step_rules.specs.Play.{AreLegal, performs, actions_of, PerformsIn, Plays, after_steps, is_done}
 use Rattle.schedule_play.specs.declared.fault.PlayFault.{PlayFault}
 use Rattle.schedule_play.specs.declared.fault.PlayFault.TheVariants as faults
 use Rattle.schedule_play.specs.Faults.{LeavesOut, Explains}
 use Rattle.schedule_play.specs.Judging.{before_of, config_at, was_done, IsWell, GoWell}
-use Rattle.schedule_play.specs.Progress.{AreFlags, marked, Stands, StepIsWell, StepStops, ExplainsStep, IsUndone, IsMissing, MayBeTaken}
+use Rattle.schedule_play.specs.Progress.{AreFlags, marked, IsStateBefore, StepIsWell, StepStops, ExplainsStep, IsUndone, IsMissing, MayBeTaken}
 use Rattle.schedule_play.proofs.Lists.{slice_take, slice_taken, there_is}
 use Rattle.step_rules.proofs.Carried.{transport_of}
 use Rattle.schedule_play.proofs.Done.{DoneAt, done_at, at_done, done_append, done_none, done_more, flags_step, flags_next}
@@ -187,36 +187,36 @@ done_unless setting steps flags k are performed none = elim (cases_Bool (is_done
 ]
 
 -- what is kept at the end
-pub played : (setting : SettingValue) (schedule : List (List Action)) (time : ℕ) (places : List (List Ion)) (early marks : List Bool) → length schedule ≤ time → Stands setting (before_of (take time schedule) []) places early marks []
+pub played : (setting : SettingValue) (schedule : List (List Action)) (time : ℕ) (places : List (List Ion)) (early marks : List Bool) → length schedule ≤ time → IsStateBefore setting (before_of (take time schedule) []) places early marks []
     → ((k : ℕ) → IsUndone setting.circuit marks k → ⊥) → Plays setting schedule
-played setting schedule time places early marks h stands none =
-    let go : GoWell setting (take time schedule) = stands.well in
-    subst (Plays setting) (take_all time schedule h) (plays setting (take time schedule) go (λ k performed. done_unless setting (take time schedule) marks k stands.done performed (none k)))
+played setting schedule time places early marks h state none =
+    let go : GoWell setting (take time schedule) = state.well in
+    subst (Plays setting) (take_all time schedule h) (plays setting (take time schedule) go (λ k performed. done_unless setting (take time schedule) marks k state.done performed (none k)))
 
-pub lacked : (setting : SettingValue) (schedule : List (List Action)) (time : ℕ) (places : List (List Ion)) (early marks : List Bool) (op : ℕ) → length schedule ≤ time → Stands setting (before_of (take time schedule) []) places early marks []
+pub lacked : (setting : SettingValue) (schedule : List (List Action)) (time : ℕ) (places : List (List Ion)) (early marks : List Bool) (op : ℕ) → length schedule ≤ time → IsStateBefore setting (before_of (take time schedule) []) places early marks []
     → IsMissing setting.circuit marks op → LeavesOut setting schedule op
-lacked setting schedule time places early marks op h stands missing =
+lacked setting schedule time places early marks op h state missing =
     let past : List (List Action) = take time schedule in
-    let undone : is_done past op ≡ false = sym (done_by_flag setting past marks op stands.done missing.undone.performed) ∙ missing.undone.undone in
+    let undone : is_done past op ≡ false = sym (done_by_flag setting past marks op state.done missing.undone.performed) ∙ missing.undone.undone in
     let least : (other : ℕ) → other < op → IsTrue (is_performed setting.circuit other) → is_done past other ≡ true =
-    λ other before performed. done_unless setting past marks other stands.done performed (missing.least other before) in
-    subst (λ (l : List (List Action)). LeavesOut setting l op) (take_all time schedule h) (leaves_out setting past op stands.well missing.undone.performed undone least)
+    λ other before performed. done_unless setting past marks other state.done performed (missing.least other before) in
+    subst (λ (l : List (List Action)). LeavesOut setting l op) (take_all time schedule h) (leaves_out setting past op state.well missing.undone.performed undone least)
 
 -- ---- one more step
 
-pub stands_next : (setting : SettingValue) (schedule : List (List Action)) (time : ℕ) (d given : List Action) (places places_now : List (List Ion)) (early marks early_now marks_now : List Bool) → time < length schedule → given ≡ get_or schedule time d
-    → Stands setting (before_of (take time schedule) []) places early marks [] → StepIsWell setting (take time schedule) given → AreFlags setting.circuit (take time schedule ++ given ∷ []) marks_now
-    → places_now ≡ after_step setting.trap places given → early_now ≡ fold marked early given → Stands setting (before_of (take (time + 1) schedule) []) places_now early_now marks_now []
-stands_next setting schedule time d given places places_now early marks early_now marks_now h same stands well flags moved marked_is =
+pub state_next : (setting : SettingValue) (schedule : List (List Action)) (time : ℕ) (d given : List Action) (places places_now : List (List Ion)) (early marks early_now marks_now : List Bool) → time < length schedule → given ≡ get_or schedule time d
+    → IsStateBefore setting (before_of (take time schedule) []) places early marks [] → StepIsWell setting (take time schedule) given → AreFlags setting.circuit (take time schedule ++ given ∷ []) marks_now
+    → places_now ≡ after_step setting.trap places given → early_now ≡ fold marked early given → IsStateBefore setting (before_of (take (time + 1) schedule) []) places_now early_now marks_now []
+state_next setting schedule time d given places places_now early marks early_now marks_now h same state well flags moved marked_is =
     let past : List (List Action) = take time schedule in
     let start : List (List Ion) = start_of setting.trap setting.placement in
     let front : take (time + 1) schedule ≡ past ++ given ∷ [] = take_more schedule time d h ∙ ap (λ (s : List Action). past ++ s ∷ []) (sym same) in
-    subst (λ (l : List (List Action)). Stands setting (before_of l []) places_now early_now marks_now []) (sym front) (record {
-      config = moved ∙ ap (λ (p : List (List Ion)). after_step setting.trap p given) stands.config ∙ sym (fold-append (after_step setting.trap) start past (given ∷ []));
-      earlier = subst (AreFlags setting.circuit (past ++ given ∷ [])) (sym marked_is) (flags_step setting.circuit past given early stands.earlier);
+    subst (λ (l : List (List Action)). IsStateBefore setting (before_of l []) places_now early_now marks_now []) (sym front) (record {
+      config = moved ∙ ap (λ (p : List (List Ion)). after_step setting.trap p given) state.config ∙ sym (fold-append (after_step setting.trap) start past (given ∷ []));
+      earlier = subst (AreFlags setting.circuit (past ++ given ∷ [])) (sym marked_is) (flags_step setting.circuit past given early state.earlier);
       done = flags_next setting.circuit (past ++ given ∷ []) marks_now flags;
       footprints = refl;
-      well = well_pushed setting past given stands.well well;
+      well = well_pushed setting past given state.well well;
     })
 
 -- ---- a fault

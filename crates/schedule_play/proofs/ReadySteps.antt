@@ -8,12 +8,11 @@ use Rattle.std.proofs.lemmas.Option.{same_Some, slice_get-get_or, slice_get_with
 use Rattle.std.proofs.lemmas.List.{get_or_append_left, get_or-replicate, length-set, length-take-le}
 use Rattle.qc_base.specs.declared.ids.OpId.{OpId}
 use Rattle.circuit_core.specs.Circuit.{CircuitValue}
-use Rattle.circuit_core.specs.Order.{Forced, IsReached}
+use Rattle.circuit_core.specs.Order.{Forced, IsReached, is_performed}
 use Rattle.circuit_core.specs.Nearest.{IsListed, AreNearest}
 use Rattle.circuit_core.proofs.Forcing.{forced_before}
 use Rattle.step_rules.specs.declared.action.Action.{Action}
 use Rattle.step_rules.specs.declared.action.Action.TheVariants as actions
-use Rattle.step_rules.specs.Guards.{is_performed}
 use Rattle.step_rules.specs.Play.{performs, is_done}
 use Rattle.schedule_play.specs.Ready.{IsReady, AreClosed, AreDoneAfter, noted, settled_after, AreReadyAfter, IsReadyTable, IsReadyThroughout}
 use Rattle.schedule_play.proofs.Lists.{slice_take, there_is, is_there}

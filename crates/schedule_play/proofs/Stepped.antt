@@ -13,7 +13,7 @@ use Rattle.step_rules.specs.Steps.{Spot, footprint}
 use Rattle.schedule_play.specs.declared.fault.PlayFault.{PlayFault}
 use Rattle.schedule_play.specs.declared.fault.PlayFault.TheVariants as faults
 use Rattle.schedule_play.specs.Judging.{before_of, IsWell, Offends}
-use Rattle.schedule_play.specs.Progress.{AreFlags, marked, Stands, StepIsWell, StepStops, ExplainsStep}
+use Rattle.schedule_play.specs.Progress.{AreFlags, marked, IsStateBefore, StepIsWell, StepStops, ExplainsStep}
 use Rattle.schedule_play.proofs.Lists.{slice_pushed}
 use Rattle.schedule_play.proofs.Done.{flags_marked}
 
@@ -49,21 +49,21 @@ step_well_pushed setting past step action well is place other at = elim (slice_p
       subst (λ (l : List Action). IsWell setting (before_of past l) other) (sym front) (subst (IsWell setting (before_of past step)) last.1 is))
 ]
 
-stands_more : (setting : SettingValue) (past : List (List Action)) (step : List Action) (action : Action) (places : List (List Ion)) (early marks early_now marks_now : List Bool) (footprints now : List Footprint) (works : Footprint) →
-    Stands setting (before_of past step) places early marks footprints → early_now ≡ early → marks_now ≡ marked marks action → now ≡ footprints ++ works ∷ [] → spots works ≡ footprint setting.trap action
-    → Stands setting (before_of past (step ++ action ∷ [])) places early_now marks_now now
-stands_more setting past step action places early marks early_now marks_now footprints now works stands same marked_is grown is = record {
-  config = stands.config;
-  earlier = subst (AreFlags setting.circuit past) (sym same) stands.earlier;
-  done = subst (AreFlags setting.circuit (past ++ (step ++ action ∷ []) ∷ [])) (sym marked_is) (flags_marked setting.circuit past step action marks stands.done);
-  footprints = ap (map spots) grown ∙ map-append spots footprints (works ∷ []) ∙ ap (λ (l : List (List Spot)). l ++ spots works ∷ []) stands.footprints
+state_more : (setting : SettingValue) (past : List (List Action)) (step : List Action) (action : Action) (places : List (List Ion)) (early marks early_now marks_now : List Bool) (footprints now : List Footprint) (works : Footprint) →
+    IsStateBefore setting (before_of past step) places early marks footprints → early_now ≡ early → marks_now ≡ marked marks action → now ≡ footprints ++ works ∷ [] → spots works ≡ footprint setting.trap action
+    → IsStateBefore setting (before_of past (step ++ action ∷ [])) places early_now marks_now now
+state_more setting past step action places early marks early_now marks_now footprints now works state same marked_is grown is = record {
+  config = state.config;
+  earlier = subst (AreFlags setting.circuit past) (sym same) state.earlier;
+  done = subst (AreFlags setting.circuit (past ++ (step ++ action ∷ []) ∷ [])) (sym marked_is) (flags_marked setting.circuit past step action marks state.done);
+  footprints = ap (map spots) grown ∙ map-append spots footprints (works ∷ []) ∙ ap (λ (l : List (List Spot)). l ++ spots works ∷ []) state.footprints
       ∙ ap (λ (s : List Spot). map (footprint setting.trap) step ++ s ∷ []) is ∙ sym (map-append (footprint setting.trap) step (action ∷ []));
-  well = stands.well;
+  well = state.well;
 }
 
 -- what the next action's judgement says, and what is kept then
 pub record Goes (setting : SettingValue) (past : List (List Action)) (step : List Action) (places : List (List Ion)) (early marks : List Bool) (footprints : List Footprint) : Type 0 where
-  pub stands : Stands setting (before_of past step) places early marks footprints
+  pub state : IsStateBefore setting (before_of past step) places early marks footprints
   pub well : StepIsWell setting past step
 
 pub goes_on : (setting : SettingValue) (past : List (List Action)) (step : List Action) (i n : ℕ) (d : Action) (places : List (List Ion)) (early marks early_now marks_now : List Bool) (footprints now : List Footprint) (works : Footprint) →
@@ -77,7 +77,7 @@ goes_on setting past step i n d places early marks early_now marks_now footprint
     let well : IsWell setting (before_of past (take i step)) action = subst (λ (k : ℕ). IsWell setting (before_of past (take k step)) action) count it.0 in
     let front : take (i + 1) step ≡ take i step ++ action ∷ [] = take_more step i d h in
     subst (λ (l : List Action). Goes setting past l places early_now marks_now now) (sym front) (record {
-      stands = stands_more setting past (take i step) action places early marks early_now marks_now footprints now works goes.stands same marked_is grown it.1;
+      state = state_more setting past (take i step) action places early marks early_now marks_now footprints now works goes.state same marked_is grown it.1;
       well = step_well_pushed setting past (take i step) action goes.well well;
     })
 

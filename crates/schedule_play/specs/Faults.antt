@@ -3,12 +3,12 @@ use Rattle.std.specs.Prelude.{◌≡◌, ℕ, ◌+◌, ◌<◌, ◌≤◌, ◌�
 use Rattle.qc_base.specs.declared.ids.Ion.{Ion}
 use Rattle.trap_model.specs.Trap.{TrapValue}
 use Rattle.circuit_core.specs.Circuit.{CircuitValue}
-use Rattle.circuit_core.specs.Order.{Forced}
+use Rattle.circuit_core.specs.Order.{Forced, is_performed}
 use Rattle.step_rules.specs.declared.action.Action.{Action}
 use Rattle.step_rules.specs.declared.action.Rule.{Rule}
 use Rattle.step_rules.specs.Placement.{start_of}
 use Rattle.step_rules.specs.Setting.{SettingValue}
-use Rattle.step_rules.specs.Guards.{guards, first_broken, is_performed}
+use Rattle.step_rules.specs.Guards.{guards, first_broken}
 use Rattle.step_rules.specs.Tight.{Meet}
 use Rattle.step_rules.specs.Play.{after_steps, performs, Plays}
 use Rattle.schedule_play.specs.declared.fault.PlayFault.{PlayFault}
@@ -30,27 +30,32 @@ pub record PerformsAt (steps : List (List Action)) (op time place : ℕ) : Type 
 
 -- the first place is in an earlier step than the second, or earlier in the same step
 abbrev pub ComesBefore : ℕ → ℕ → ℕ → ℕ → Type 0
-ComesBefore time place other_time other_place = (time < other_time) ⊎ ((time ≡ other_time) × (place < other_place))
+ComesBefore time place other_time other_place =
+    (time < other_time) ⊎ ((time ≡ other_time) × (place < other_place))
 
--- where the ions stand when that step begins
+-- where the ions are when that step begins
 abbrev pub config_before : SettingValue → List (List Action) → ℕ → List (List Ion)
-config_before setting steps time = after_steps setting.trap (start_of setting.trap setting.placement) (take time steps)
+config_before setting steps time =
+    after_steps setting.trap (start_of setting.trap setting.placement) (take time steps)
 
 -- ---- what is wrong with the action at a place, each cause by itself
 
 -- the rule is that of the first guard that fails when the step begins
-pub record Breaks (setting : SettingValue) (steps : List (List Action)) (time place : ℕ) (rule : Rule) : Type 0 where
+pub record Breaks (setting : SettingValue) (steps : List (List Action)) (time place : ℕ)
+    (rule : Rule) : Type 0 where
   pub action : Action
   pub there : IsAt steps time place action
   pub broken : first_broken (guards setting (config_before setting steps time) action) ≡ Some rule
 
 -- the action at that place of the step works on a spot that this one works on
-pub record SharesSpot (trap : TrapValue) (steps : List (List Action)) (time place : ℕ) (action : Action) : Type 0 where
+pub record SharesSpot (trap : TrapValue) (steps : List (List Action)) (time place : ℕ)
+    (action : Action) : Type 0 where
   pub other : Action
   pub there : IsAt steps time place other
   pub meet : Meet trap other action
 
--- the action of that number, from 1, is the first of the step that works on a spot of this one, and comes before it
+-- the action of that number, from 1, is the first of the step that works on a spot of this one, and comes before
+-- it
 pub record IsShared (trap : TrapValue) (steps : List (List Action)) (time place number : ℕ) : Type 0 where
   pub action : Action
   pub there : IsAt steps time place action
@@ -67,7 +72,8 @@ pub record IsOwedAt (setting : SettingValue) (steps : List (List Action)) (time 
   pub undone : (earlier place : ℕ) → earlier < time → PerformsAt steps needs earlier place → ⊥
 
 -- the action performs that operation, and the other is the least that is owed
-pub record IsEarly (setting : SettingValue) (steps : List (List Action)) (time place op needs : ℕ) : Type 0 where
+pub record IsEarly (setting : SettingValue) (steps : List (List Action))
+    (time place op needs : ℕ) : Type 0 where
   pub here : PerformsAt steps op time place
   pub owed : IsOwedAt setting steps time op needs
   pub least : (other : ℕ) → IsOwedAt setting steps time op other → needs ≤ other
@@ -109,7 +115,8 @@ pub record IsFirst (setting : SettingValue) (steps : List (List Action)) (fault 
   pub place : ℕ
   pub cause : Causes setting steps time place fault
   pub first : (other : PlayFault) → Causes setting steps time place other → rank fault ≤ rank other
-  pub none_before : (t p : ℕ) (other : PlayFault) → ComesBefore t p time place → Causes setting steps t p other → ⊥
+  pub none_before : (t p : ℕ) (other : PlayFault) → ComesBefore t p time place
+      → Causes setting steps t p other → ⊥
 
 -- an action has to perform the operation, and none does
 pub record IsLeftOut (circuit : CircuitValue) (steps : List (List Action)) (op : ℕ) : Type 0 where
@@ -122,7 +129,8 @@ pub record LeavesOut (setting : SettingValue) (steps : List (List Action)) (op :
   pub left_out : IsLeftOut setting.circuit steps op
   pub least : (other : ℕ) → IsLeftOut setting.circuit steps other → op ≤ other
 
--- the first fault of the schedule: what is wrong with the first action that has a cause, or else an operation that is missing
+-- the first fault of the schedule: what is wrong with the first action that has a cause, or else an operation that
+-- is missing
 abbrev pub IsFault : SettingValue → List (List Action) → PlayFault → Type 0
 IsFault setting steps (faults.Missing op) = LeavesOut setting steps op.0
 IsFault setting steps fault = IsFirst setting steps fault

@@ -1,12 +1,13 @@
--- What the simulator finds wrong with an action, by the steps and actions before it. Working notions of the private functions.
+-- What the simulator finds wrong with an action, by the steps and actions before it. Working notions of the private
+-- functions.
 use Rattle.std.specs.Prelude.{◌≡◌, ℕ, ◌+◌, ◌≤◌, Bool, true, false, IsTrue, List, [], ◌∷◌, ◌++◌, length, take, All, Some, slice_get}
 use Rattle.qc_base.specs.declared.ids.Ion.{Ion}
 use Rattle.trap_model.specs.Trap.{TrapValue}
-use Rattle.circuit_core.specs.Order.{Forced}
+use Rattle.circuit_core.specs.Order.{Forced, is_performed}
 use Rattle.step_rules.specs.declared.action.Action.{Action}
 use Rattle.step_rules.specs.Placement.{start_of}
 use Rattle.step_rules.specs.Setting.{SettingValue}
-use Rattle.step_rules.specs.Guards.{Passes, guards, first_broken, is_performed}
+use Rattle.step_rules.specs.Guards.{Passes, guards, first_broken}
 use Rattle.step_rules.specs.Tight.{Meet}
 use Rattle.step_rules.specs.Steps.{AreApart}
 use Rattle.step_rules.specs.Play.{after_steps, performs, is_done}
@@ -22,7 +23,7 @@ pub record Before : Type 0 where
 abbrev pub before_of : List (List Action) → List Action → Before
 before_of steps actions = record { steps = steps; actions = actions }
 
--- where the ions stand when the step of the action begins
+-- where the ions are when the step of the action begins
 abbrev pub config_at : SettingValue → Before → List (List Ion)
 config_at setting before = after_steps setting.trap (start_of setting.trap setting.placement) before.steps
 
@@ -74,7 +75,8 @@ pub record OwesFirst (setting : SettingValue) (before : Before) (op needs : ℕ)
   pub owed : Owes setting before op needs
   pub least : (other : ℕ) → Owes setting before op other → needs ≤ other
 
--- the action breaks a rule; or it shares something with an earlier one of its step; or it comes too early; or it was done before
+-- the action breaks a rule; or it shares something with an earlier one of its step; or it comes too early; or it was
+-- done before
 abbrev pub Offends : SettingValue → Before → Action → PlayFault → Type 0
 Offends setting before action (faults.Broken step number rule) =
     AreCounts before step number × (first_broken (guards setting (config_at setting before) action) ≡ Some rule)

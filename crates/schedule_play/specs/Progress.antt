@@ -5,14 +5,14 @@ use Rattle.qc_base.specs.declared.ids.Ion.{Ion}
 use Rattle.qc_base.specs.declared.ids.OpId.{OpId}
 use Rattle.trap_model.specs.Trap.{TrapValue}
 use Rattle.circuit_core.specs.Circuit.{CircuitValue}
-use Rattle.circuit_core.specs.Order.{Forced}
+use Rattle.circuit_core.specs.Order.{Forced, is_performed}
 use Rattle.step_rules.specs.declared.action.Action.{Action}
 use Rattle.step_rules.specs.declared.action.Action.TheVariants as actions
 use Rattle.step_rules.specs.declared.spots.Footprint.{Footprint}
 use Rattle.step_rules.specs.Footprint.{spots, is_worked_on}
 use Rattle.step_rules.specs.Setting.{SettingValue}
 use Rattle.step_rules.specs.Steps.{footprint, AreApart}
-use Rattle.step_rules.specs.Guards.{is_performed, PassesTransport}
+use Rattle.step_rules.specs.Guards.{PassesTransport}
 use Rattle.step_rules.specs.Play.{is_done}
 use Rattle.schedule_play.specs.declared.fault.PlayFault.{PlayFault}
 use Rattle.schedule_play.specs.declared.fault.PlayFault.TheVariants as faults
@@ -46,7 +46,8 @@ do_meet a b = list_any (is_worked_on (spots b)) (spots a)
 -- none of so many first footprints meets that one
 abbrev pub NoneMeets : List Footprint → ℕ → Footprint → Type 0
 NoneMeets footprints count works =
-    (place : ℕ) (other : Footprint) → place < count → slice_get footprints place ≡ Some other → do_meet other works ≡ false
+    (place : ℕ) (other : Footprint) → place < count → slice_get footprints place ≡ Some other
+    → do_meet other works ≡ false
 
 -- the first that meets that one
 pub record MeetsAt (footprints : List Footprint) (works : Footprint) (place : ℕ) : Type 0 where
@@ -60,7 +61,8 @@ abbrev pub OpOffends : CircuitValue → List Bool → List Bool → ℕ → OpId
 OpOffends circuit earlier done step op (faults.Early at early needs) =
     (at ≡ step) × (early ≡ op) × IsOwedFirst circuit earlier op.0 needs.0
 OpOffends circuit earlier done step op (faults.Twice at twice) =
-    (at ≡ step) × (twice ≡ op) × ((needs : ℕ) → IsOwed circuit earlier op.0 needs → ⊥) × (slice_index_or done op.0 false ≡ true)
+    (at ≡ step) × (twice ≡ op) × ((needs : ℕ) → IsOwed circuit earlier op.0 needs → ⊥)
+    × (slice_index_or done op.0 false ≡ true)
 OpOffends circuit earlier done step op _ = ⊥
 
 -- nothing is wrong with it
@@ -73,7 +75,8 @@ abbrev pub before_next : List (List Action) → List Action → ℕ → Before
 before_next past step count = before_of past (take count step)
 
 -- what the simulator keeps, after what was before an action
-pub record Stands (setting : SettingValue) (before : Before) (places : List (List Ion)) (early marks : List Bool) (works : List Footprint) : Type 0 where
+pub record IsStateBefore (setting : SettingValue) (before : Before) (places : List (List Ion))
+    (early marks : List Bool) (works : List Footprint) : Type 0 where
   pub config : places ≡ config_at setting before
   pub earlier : AreFlags setting.circuit before.steps early
   pub done : AreFlags setting.circuit (before.steps ++ before.actions ∷ []) marks
@@ -83,10 +86,12 @@ pub record Stands (setting : SettingValue) (before : Before) (places : List (Lis
 -- all is well with each action of a step after these
 abbrev pub StepIsWell : SettingValue → List (List Action) → List Action → Type 0
 StepIsWell setting steps step =
-    (place : ℕ) (action : Action) → slice_get step place ≡ Some action → IsWell setting (before_next steps step place) action
+    (place : ℕ) (action : Action) → slice_get step place ≡ Some action
+    → IsWell setting (before_next steps step place) action
 
 -- all is well before some action of the step, and this is wrong with it
-pub record StepStops (setting : SettingValue) (steps : List (List Action)) (step : List Action) (fault : PlayFault) : Type 0 where
+pub record StepStops (setting : SettingValue) (steps : List (List Action)) (step : List Action)
+    (fault : PlayFault) : Type 0 where
   pub place : ℕ
   pub action : Action
   pub in_step : slice_get step place ≡ Some action

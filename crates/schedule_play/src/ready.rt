@@ -2,7 +2,7 @@
 
 ghost use Rattle.std.specs.Prelude.{◌≡◌, ℕ, ◌<◌, ◌≤◌, length, fold, IfOk};
 ghost use Rattle.circuit_core.specs.Nearest.{IsListed};
-ghost use Rattle.step_rules.specs.Guards.{is_performed as performed_in};
+ghost use Rattle.circuit_core.specs.Order.{is_performed as performed_in};
 ghost use Rattle.schedule_play.specs.Ready.{AreDoneAfter, noted, settled_after as settled_in, IsReadyThroughout};
 
 use circuit_core::{Circuit, Nearest};
@@ -41,7 +41,8 @@ fn note_step(firsts: &mut Vec<u64>, number: u64, actions: &[Action])
     }
 }
 
-// For each operation the number of the first step that performs it, counted from 1; the greatest number where none does.
+// For each operation the number of the first step that performs it, counted from 1; the greatest number where none
+// does.
 fn first_steps(alloc: Global, circuit: &Circuit, steps: &[Step]) -> Result<Vec<u64>, NoMemory>
     ensures len { IfOk result (λ firsts. length firsts.items ≡ length circuit.now.ops) }
     ensures done { IfOk result (λ firsts. AreDoneAfter steps.now firsts.items) }

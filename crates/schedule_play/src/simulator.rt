@@ -11,7 +11,7 @@ ghost use Rattle.step_rules.specs.Play.{after_steps, Plays};
 ghost use Rattle.schedule_play.specs.Faults.{Explains};
 ghost use Rattle.schedule_play.specs.Judging.{before_of, IsWell, Offends};
 ghost use Rattle.schedule_play.specs.Progress.{AreFlags, marked, NoneMeets, MeetsAt, OpIsWell, OpOffends};
-ghost use Rattle.schedule_play.specs.Progress.{before_next, Stands, StepIsWell, ExplainsStep, MayBeTaken};
+ghost use Rattle.schedule_play.specs.Progress.{before_next, IsStateBefore, StepIsWell, ExplainsStep, MayBeTaken};
 ghost use Rattle.schedule_play.specs.Ready.{AreClosed, IsReadyTable};
 
 use crate::fault::PlayFault;
@@ -64,7 +64,8 @@ fn judge_op(
     Ok(())
 }
 
-// Judges the next action of a step, of which as many were judged as there are footprints. Answers what it works on.
+// Judges the next action of a step, of which as many were judged as there are footprints. Answers what it works
+// on.
 fn judge(
     setting: &Setting,
     config: &Config,
@@ -76,7 +77,8 @@ fn judge(
     requires config { IsConfigOf setting.now.trap config.now }
     requires ready { IsReadyTable setting.now.circuit past.now progress.now.ready.items }
     requires next { length footprints.now < length step.now }
-    requires stands { Stands setting.now (before_next past.now step.now (length footprints.now)) config.now.lists
+    requires state { IsStateBefore setting.now
+        (before_next past.now step.now (length footprints.now)) config.now.lists
         progress.now.earlier.items progress.now.done.items footprints.now }
     ensures well { (action : AnAction) → slice_get step.now (length footprints.now) ≡ Some action
         → MatchResult result
@@ -125,10 +127,11 @@ fn judge_step(
 ) -> Result<(), PlayFault>
     requires config { IsConfigOf setting.now.trap config.now }
     requires ready { IsReadyTable setting.now.circuit past.now progress.old.ready.items }
-    requires stands { Stands setting.now (before_of past.now []) config.now.lists
+    requires state { IsStateBefore setting.now (before_of past.now []) config.now.lists
         progress.old.earlier.items progress.old.done.items [] }
     ensures well { IfOk result (λ _. StepIsWell setting.now past.now step.now) }
-    ensures done { IfOk result (λ _. AreFlags setting.now.circuit (past.now ++ step.now ∷ []) progress.new.done.items) }
+    ensures done { IfOk result
+        (λ _. AreFlags setting.now.circuit (past.now ++ step.now ∷ []) progress.new.done.items) }
     ensures fault { IfErr result (ExplainsStep setting.now past.now step.now) }
     ensures earlier { progress.new.earlier ≡ progress.old.earlier }
     ensures ready { progress.new.ready ≡ progress.old.ready }
@@ -158,7 +161,7 @@ fn take_step(trap: &Trap, config: &mut Config, progress: &mut Progress, step: &[
     }
 }
 
-/// Plays a schedule from a placement: where the ions stand at its end, or its first fault.
+/// Plays a schedule from a placement: where the ions are at its end, or its first fault.
 pub fn play(
     alloc: Global,
     trap: &Trap,

@@ -299,7 +299,7 @@ fn compare(rt: &impl Abort, trap: &Trap, config: &Config, places: &[&[u32]])
     }
 }
 
-// Plays the steps to their end and compares where the ions stand then.
+// Plays the steps to their end and compares where the ions are then.
 fn plays(
     rt: &impl Abort,
     alloc: Global,

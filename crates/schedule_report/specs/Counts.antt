@@ -9,7 +9,7 @@ use Rattle.step_rules.specs.Play.{actions_of}
 use Rattle.schedule_report.specs.declared.totals.Counts.{Counts}
 use Rattle.schedule_report.specs.declared.tally.Tally.{Tally}
 
--- a count of 64 bits, which stands still at its end
+-- a count of 64 bits, which stays at its end
 abbrev pub capped : ℕ → ℕ
 capped number = min number (2 ^ 64 - 1)
 

@@ -5,7 +5,7 @@ ghost use Rattle.schedule_report.specs.Tables.{no_actions, with_action};
 
 use step_rules::Action;
 
-/// How many actions there are of each kind. A count stands still at its type's end.
+/// How many actions there are of each kind. A count stays at its type's end.
 #[derive(Clone, Copy, Debug, PartialEq, Eq)]
 pub struct Tally {
     pub splits: u64,

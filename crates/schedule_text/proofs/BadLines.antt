@@ -29,7 +29,7 @@ no_lines : (bytes : List ℕ) → first_lines 0 bytes ≡ []
 no_lines [] = refl
 no_lines (byte ∷ bytes) = refl
 
--- one line or more: the first byte stands there
+-- one line or more: the first byte is there
 lines_on : (number byte : ℕ) (bytes : List ℕ) → 1 ≤ number → first_lines number (byte ∷ bytes) ≡ byte ∷ first_lines (if byte == 10 then number - 1 else number) bytes
 lines_on number byte bytes some = cond-false (number == 0) [] (byte ∷ first_lines (if byte == 10 then number - 1 else number) bytes) (ne_eqb number 0 (λ none. omega (arith, none, some)))
 

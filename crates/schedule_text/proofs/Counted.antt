@@ -1,10 +1,10 @@
--- The qubits below a number that are left where none stands twice.
+-- The qubits below a number that are left where none occurs twice.
 use Rattle.std.proofs.Common.{◌≡◌, ℕ, zero, suc, ◌+◌, ◌<◌, ◌≤◌, List, [], ◌∷◌, ◌++◌, length, Bool, true, false, cond, refl, sym, subst, ◌∙◌, inl, inr, arith, length-append}
 use Rattle.std.specs.Prelude.{◌==◌, All}
 use Rattle.std.proofs.lemmas.Bool.{eq-eqb, ne_eqb, cases_eq}
 use Rattle.std.proofs.lemmas.List.Elements.{All-nil, All-cons, All-append, All-weaker}
 use Rattle.qc_base.specs.declared.ids.Qubit.{Qubit}
-use Rattle.circuit_core.specs.Deciding.{stands}
+use Rattle.circuit_core.specs.Deciding.{is_listed}
 use Rattle.step_rules.proofs.Accepted.{no_others}
 use Rattle.step_rules.specs.Placement.{times}
 use Rattle.step_rules.proofs.Counted.{counted}
@@ -16,10 +16,10 @@ qubit_at n = record { 0 = n }
 abbrev unless : Bool → Qubit → List Qubit → List Qubit
 unless there x xs = cond there xs (x ∷ xs)
 
--- the qubits below the number that don't stand there
+-- the qubits below the number that are not there
 abbrev pub left_of : ℕ → List Qubit → List Qubit
 left_of zero xs = []
-left_of (suc n) xs = unless (stands n xs) (qubit_at n) (left_of n xs)
+left_of (suc n) xs = unless (is_listed n xs) (qubit_at n) (left_of n xs)
 
 unless_all : (P : Qubit → Type 0) (b : Bool) (x : Qubit) (xs : List Qubit) → P x → All P xs → All P (unless b x xs)
 unless_all P true x xs p all = all
@@ -30,9 +30,9 @@ left_below zero xs = All-nil (λ (qubit : Qubit). qubit.0 < 0)
 left_below (suc n) xs =
     let P : Qubit → Type 0 = λ q. q.0 < n in
     let Q : Qubit → Type 0 = λ q. q.0 < suc n in
-    unless_all Q (stands n xs) (qubit_at n) (left_of n xs) (omega arith) (All-weaker P Q (λ x h. omega arith) (left_of n xs) (left_below n xs))
+    unless_all Q (is_listed n xs) (qubit_at n) (left_of n xs) (omega arith) (All-weaker P Q (λ x h. omega arith) (left_of n xs) (left_below n xs))
 
-last_left : (n : ℕ) (xs : List Qubit) (b : Bool) → stands n xs ≡ b → times n xs ≤ 1 → times n (unless b (qubit_at n) (left_of n xs)) + times n xs ≡ 1
+last_left : (n : ℕ) (xs : List Qubit) (b : Bool) → is_listed n xs ≡ b → times n xs ≤ 1 → times n (unless b (qubit_at n) (left_of n xs)) + times n xs ≡ 1
 last_left n xs true there once = omega (arith, no_others n (left_of n xs) n (left_below n xs) (omega arith), times_some n xs there)
 last_left n xs false there once =
     let here : (n == n) ≡ true = eq-eqb n n refl in
@@ -45,11 +45,11 @@ unless_other n k xs false other = let there : (n == k) ≡ false = ne_eqb n k ot
 left_once : (n : ℕ) (xs : List Qubit) (k : ℕ) → k < n → times k xs ≤ 1 → times k (left_of n xs) + times k xs ≡ 1
 left_once zero xs k h once = absurd (omega arith)
 left_once (suc n) xs k h once = elim (cases_eq n k) [
-  | inl same ↦ subst (λ (m : ℕ). times m (left_of (suc n) xs) + times m xs ≡ 1) same (last_left n xs (stands n xs) refl (subst (λ (m : ℕ). times m xs ≤ 1) (sym same) once))
-  | inr other ↦ omega (arith, unless_other n k (left_of n xs) (stands n xs) other, left_once n xs k (omega arith) once)
+  | inl same ↦ subst (λ (m : ℕ). times m (left_of (suc n) xs) + times m xs ≡ 1) same (last_left n xs (is_listed n xs) refl (subst (λ (m : ℕ). times m xs ≤ 1) (sym same) once))
+  | inr other ↦ omega (arith, unless_other n k (left_of n xs) (is_listed n xs) other, left_once n xs k (omega arith) once)
 ]
 
--- with them, each stands once
+-- with them, each occurs once
 pub filled_once : (n : ℕ) (xs : List Qubit) → ((k : ℕ) → times k xs ≤ 1) → (k : ℕ) → k < n → times k (xs ++ left_of n xs) ≡ 1
 filled_once n xs once k h = omega (arith, times-append k xs (left_of n xs), left_once n xs k h (once k))
 

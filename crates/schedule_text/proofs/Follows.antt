@@ -35,7 +35,7 @@ no_room trap circuit bytes full = no_text trap circuit bytes (λ any text. full 
 pub nothing_begins : (trap : TrapValue) (circuit : CircuitValue) → qubit_count circuit ≤ capacity trap.zones → BeginsText trap circuit []
 nothing_begins trap circuit fits = begins_cut trap circuit [] (head_text trap circuit []) (head_text trap circuit []) (head_begins trap circuit [] (opens_none trap circuit fits)) refl
 
--- the lines of the zones, the count of the steps and the steps, each after what stands before
+-- the lines of the zones, the count of the steps and the steps, each after what is before
 grouped : (places count steps : List ℕ)
     → codes "qccd schedule 1\n" ++ places ++ codes "steps " ++ count ++ codes "\n" ++ steps ++ codes "end\n"
     ≡ codes "qccd schedule 1\n" ++ (places ++ ((codes "steps " ++ count ++ codes "\n") ++ (steps ++ codes "end\n")))
@@ -91,7 +91,7 @@ after_head trap circuit lists more c opened text =
 
 -- ---- the line of the next zone
 
--- the first of more lists, and the zone that it stands in
+-- the first of more lists, and the zone that it is in
 record NextPlace (circuit : CircuitValue) (zone : ZonePart) (zones : List ZonePart) (placement : List (List Qubit)) (k : ℕ) : Type 0 where
   list : List Qubit
   grown : take (suc k) placement ≡ take k placement ++ list ∷ []
@@ -121,7 +121,7 @@ next_place circuit zone (first ∷ zones) (list ∷ placement) (suc k) e same al
       lines = later.lines;
     }
 
--- a list that can stand in the next zone fits there
+-- a list that may be in the next zone fits there
 pub next_fits : (trap : TrapValue) (circuit : CircuitValue) (lists : List (List Qubit)) (zone : ZonePart) (list : List Qubit) → slice_get trap.zones (length lists) ≡ Some zone → Opens trap circuit (lists ++ list ∷ [])
     → length list ≤ zone.capacity
 next_fits trap circuit lists zone list at opened =
@@ -129,7 +129,7 @@ next_fits trap circuit lists zone list at opened =
     let last : length lists + 0 ≡ length lists = omega arith in
     omega (arith, opened.room (length lists) list (slice_get_right lists (list ∷ []) 0 (length lists) last), zone_is)
 
--- the reader of the next list doesn't find one that can stand there
+-- the reader of the next list doesn't find one that may be there
 pub list_sticks : (trap : TrapValue) (circuit : CircuitValue) (lists : List (List Qubit)) (zone : ZonePart) (bytes : List ℕ) → IsTrap trap → IsCircuit circuit → Opens trap circuit lists
     → slice_get trap.zones (length lists) ≡ Some zone → length lists < length trap.zones
     → ((list : List Qubit) (rest : List ℕ) → All (λ (qubit : Qubit). qubit.0 < qubit_count circuit) list → bytes ≡ place_line circuit zone list ++ rest → Opens trap circuit (lists ++ list ∷ []) → ⊥)
@@ -178,14 +178,14 @@ head_none trap circuit rest = ap (λ (text : List ℕ). text ++ rest) (sym (appe
 -- ---- the line that counts the steps
 
 -- all lists were read: the text's placement is theirs, and what comes next is what comes after its lines
-pub record BehindPlaces (trap : TrapValue) (circuit : CircuitValue) (placement : List (List Qubit)) (more : List ℕ) : Type 0 where
+pub record AfterPlaces (trap : TrapValue) (circuit : CircuitValue) (placement : List (List Qubit)) (more : List ℕ) : Type 0 where
   pub steps : List (List Action)
   pub few : length steps < 2 ^ 64
   pub known : All (All (IsKnown trap circuit)) steps
   pub more_is : more ≡ after_places (setting_of trap circuit placement) steps
 
 pub all_after : (trap : TrapValue) (circuit : CircuitValue) (placement : List (List Qubit)) (more : List ℕ) → IsCircuit circuit → Opens trap circuit placement → length placement ≡ length trap.zones
-    → IsText trap circuit (head_text trap circuit placement ++ more) → BehindPlaces trap circuit placement more
+    → IsText trap circuit (head_text trap circuit placement ++ more) → AfterPlaces trap circuit placement more
 all_after trap circuit placement more c opened all text =
     let after = after_head trap circuit placement more c opened text in
     let other = text.placement in

@@ -72,7 +72,7 @@ op_found setting value zone number op bytes line text rest same is parts line_is
     let here : bytes ≡ performed_line setting zone number ++ rest = rw is grouped in
     subst (λ (s : SettingValue). bytes ≡ performed_line s zone number ++ rest) same here
 
--- what was printed stands there
+-- what was printed is there
 pub same_op_line : (setting : SettingValue) (number other : ℕ) (op read : Op) (line text rest : List ℕ) → number ≡ other → slice_get setting.circuit.ops number ≡ Some op → slice_get setting.circuit.ops other ≡ Some read
     → line ≡ op_line setting.circuit setting.placement number op ++ rest → text ≡ op_line setting.circuit setting.placement other read → line ≡ text ++ rest
 same_op_line setting number other op read line text rest e is was line_is text_is =

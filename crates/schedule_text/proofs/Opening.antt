@@ -9,7 +9,7 @@ use Rattle.circuit_core.specs.Circuit.{CircuitValue, qubit_count}
 use Rattle.trap_model.specs.declared.parts.ZonePart.{ZonePart}
 use Rattle.trap_model.specs.Trap.{TrapValue}
 use Rattle.trap_model.specs.Build.{IsTrap}
-use Rattle.circuit_core.specs.Deciding.{stands}
+use Rattle.circuit_core.specs.Deciding.{is_listed}
 use Rattle.step_rules.specs.Placement.{reading_order, times}
 use Rattle.step_rules.proofs.Reading.{times-append, times_none, times_some, flags_grown}
 use Rattle.step_rules.proofs.Placements.{grown}
@@ -24,21 +24,21 @@ times_more : (k : ℕ) (before list : List Qubit) (i : ℕ) (d : Qubit) → i < 
 times_more k before list i d h =
     omega (arith, times-append k before (take (i + 1) list), times-append k before (take i list), ap (times k) (take_more list i d h), times-append k (take i list) (get_or list i d ∷ []))
 
-one_more : (k : ℕ) (x : Qubit) (xs : List Qubit) → stands x.0 xs ≡ false → times k xs ≤ 1 → times k xs + times k (x ∷ []) ≤ 1
+one_more : (k : ℕ) (x : Qubit) (xs : List Qubit) → is_listed x.0 xs ≡ false → times k xs ≤ 1 → times k xs + times k (x ∷ []) ≤ 1
 one_more k x xs new once = elim (cases_eq x.0 k) [
   | inl same ↦ (let here : (x.0 == k) ≡ true = eq-eqb x.0 k same in rw here (omega (arith, subst (λ (n : ℕ). times n xs ≡ 0) same (times_none x.0 xs new))))
   | inr other ↦ (let there : (x.0 == k) ≡ false = ne_eqb x.0 k other in rw there (omega arith))
 ]
 
 pub marked_more : (marks : List Bool) (before list : List Qubit) (i : ℕ) (d : Qubit) → i < length list → (get_or list i d).0 < length marks → AreMarked marks (before ++ take i list)
-    → stands (get_or list i d).0 (before ++ take i list) ≡ false → AreMarked (set marks (get_or list i d).0 true) (before ++ take (i + 1) list)
+    → is_listed (get_or list i d).0 (before ++ take i list) ≡ false → AreMarked (set marks (get_or list i d).0 true) (before ++ take (i + 1) list)
 marked_more marks before list i d h within are new = record {
   flags = flags_grown marks before list i d h within are.flags;
   once = λ k. omega (arith, times_more k before list i d h, one_more k (get_or list i d) (before ++ take i list) new (are.once k));
 }
 
--- a qubit that stands before stands twice
-pub stands_twice : (before list : List Qubit) (i : ℕ) (d : Qubit) → i < length list → stands (get_or list i d).0 (before ++ take i list) ≡ true → AreOnce (before ++ list) → ⊥
+-- a qubit that occurred before occurs twice
+pub stands_twice : (before list : List Qubit) (i : ℕ) (d : Qubit) → i < length list → is_listed (get_or list i d).0 (before ++ take i list) ≡ true → AreOnce (before ++ list) → ⊥
 stands_twice before list i d h there once =
     let k : ℕ = (get_or list i d).0 in
     let here : (k == k) ≡ true = eq-eqb k k refl in

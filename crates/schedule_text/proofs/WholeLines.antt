@@ -1,4 +1,4 @@
--- A line end stands at the end of a line alone.
+-- A line end is at the end of a line alone.
 use Rattle.std.proofs.Common.{◌≡◌, ℕ, suc, ◌+◌, ◌*◌, ◌^◌, ◌<◌, ◌≤◌, List, [], ◌∷◌, ◌++◌, length, Some, refl, sym, ap, subst, ◌∙◌, arith, length-append, append_assoc}
 use Rattle.std.specs.Prelude.{decimal, codes, slice_get, ◌==◌}
 use Rattle.std.proofs.lemmas.Bool.{cond_both}

@@ -35,7 +35,7 @@ same_label circuit a b rest more c ha hb ends too e =
 pub label_found : (circuit : CircuitValue) (qubit : Qubit) (words word rest : List ℕ) → words ≡ word ++ rest → labelled circuit word ≡ Some qubit.0 → codes " " ++ words ≡ codes " " ++ label circuit qubit ++ rest
 label_found circuit qubit words word rest parts found = let there = (labelled_there circuit word qubit.0 found).1 in rw (parts, there) refl
 
--- the label that stands there
+-- the label that is there
 pub label_is : (circuit : CircuitValue) (qubit : Qubit) (words word rest more : List ℕ) → IsCircuit circuit → qubit.0 < qubit_count circuit → IsFree 32 word → EndsWord 32 rest → EndsWord 32 more → words ≡ word ++ rest
     → words ≡ label circuit qubit ++ more → (labelled circuit word ≡ Some qubit.0) × (rest ≡ more)
 label_is circuit qubit words word rest more c h free ends too parts e =
@@ -102,7 +102,7 @@ labels_all circuit list full rest words c all also ends none parts e =
     let left = no_more circuit more.0 (sym (ap length more.2) ∙ none) in
     sym (append-nil list) ∙ ap (λ (others : List Qubit). list ++ others) (sym left) ∙ sym more.1
 
--- what goes on with no label is no labels
+-- what continues with no label is no labels
 pub labels_none : (circuit : CircuitValue) (list full : List Qubit) (rest words : List ℕ) → IsCircuit circuit → All (λ (qubit : Qubit). qubit.0 < qubit_count circuit) list → All (λ (qubit : Qubit). qubit.0 < qubit_count circuit) full
     → (0 < length list → EndsWord 32 rest) → 0 < length rest → ((qubit : Qubit) (after : List ℕ) → qubit.0 < qubit_count circuit → EndsWord 32 after → rest ≡ codes " " ++ label circuit qubit ++ after → ⊥)
     → words ≡ labels_text circuit list ++ rest → words ≡ labels_text circuit full → ⊥

@@ -4,9 +4,9 @@ use Rattle.qc_base.specs.declared.ids.Qubit.{Qubit}
 use Rattle.qc_base.specs.Spelling.{IsFree}
 use Rattle.circuit_core.specs.Circuit.{CircuitValue, qubit_count}
 use Rattle.trap_model.specs.declared.parts.ZonePart.{ZonePart}
-use Rattle.trap_model.specs.Trap.{TrapValue, limit_of}
+use Rattle.trap_model.specs.Trap.{TrapValue}
 use Rattle.step_rules.specs.declared.action.Action.{Action}
-use Rattle.step_rules.specs.Placement.{reading_order, times}
+use Rattle.step_rules.specs.Placement.{reading_order, times, FitZones}
 use Rattle.step_rules.specs.Setting.{SettingValue}
 use Rattle.schedule_text.specs.Text.{place_lines, action_line, step_lines}
 use Rattle.schedule_text.specs.Reading.{IsKnown, IsText}
@@ -27,7 +27,7 @@ pub record Opens (trap : TrapValue) (circuit : CircuitValue) (lists : List (List
   pub zones : length lists ≤ length trap.zones
   pub qubits : All (λ (qubit : Qubit). qubit.0 < qubit_count circuit) (reading_order lists)
   pub once : (k : ℕ) → times k (reading_order lists) ≤ 1
-  pub room : (zone : ℕ) (list : List Qubit) → slice_get lists zone ≡ Some list → length list ≤ limit_of trap zone
+  pub room : FitZones trap lists
   pub left : qubit_count circuit ≤ length (reading_order lists) + capacity (drop (length lists) trap.zones)
 
 -- the first line, and the lines of the first zones
@@ -40,7 +40,8 @@ steps_text setting count steps = codes "steps " ++ decimal count ++ codes "\n" +
 
 -- the head, and the line that counts the steps
 abbrev pub opened_text : SettingValue → ℕ → List ℕ
-opened_text setting count = head_text setting.trap setting.circuit setting.placement ++ steps_text setting count []
+opened_text setting count =
+    head_text setting.trap setting.circuit setting.placement ++ steps_text setting count []
 
 -- the line of a body, where a step that begins has this number
 abbrev pub line_text : SettingValue → ℕ → BodyLine → List ℕ
@@ -63,8 +64,10 @@ pub record IsLine (line : List ℕ) : Type 0 where
 -- the bytes are not the same, and have no first line in common
 pub record ArePartedAtOnce (more rest : List ℕ) : Type 0 where
   pub other : more ≡ rest → ⊥
-  pub line : (line more_after rest_after : List ℕ) → IsLine line → more ≡ line ++ more_after → rest ≡ line ++ rest_after → ⊥
+  pub line : (line more_after rest_after : List ℕ) → IsLine line → more ≡ line ++ more_after
+      → rest ≡ line ++ rest_after → ⊥
 
--- no text goes on after the front as the rest does
+-- no text continues after the front as the rest does
 abbrev pub Sticks : TrapValue → CircuitValue → List ℕ → List ℕ → Type 0
-Sticks trap circuit front rest = (more : List ℕ) → IsText trap circuit (front ++ more) → ArePartedAtOnce more rest
+Sticks trap circuit front rest =
+    (more : List ℕ) → IsText trap circuit (front ++ more) → ArePartedAtOnce more rest

@@ -16,13 +16,15 @@ use Rattle.schedule_text.specs.declared.text_fault.TextFault.TheVariants.{Line, 
 abbrev pub IsKnown : TrapValue → CircuitValue → Action → Type 0
 IsKnown trap circuit (actions.Split zone end count) = (zone.0 < place_count trap) × (count < 2 ^ 32)
 IsKnown trap circuit (actions.Move from to) = (from.0 < place_count trap) × (to.0 < place_count trap)
-IsKnown trap circuit (actions.Cross junction from to) = (junction.0 < length trap.junctions) × (from.0 < place_count trap) × (to.0 < place_count trap)
+IsKnown trap circuit (actions.Cross junction from to) =
+    (junction.0 < length trap.junctions) × (from.0 < place_count trap) × (to.0 < place_count trap)
 IsKnown trap circuit (actions.Merge zone end) = zone.0 < place_count trap
 IsKnown trap circuit (actions.Swap zone index) = (zone.0 < place_count trap) × (index < 2 ^ 32)
 IsKnown trap circuit (actions.Op zone op) = (zone.0 < place_count trap) × (op.0 < length circuit.ops)
 
 -- the bytes are the text of this placement and these steps, which name nothing unknown
-pub record Spells (trap : TrapValue) (circuit : CircuitValue) (placement : List (List Qubit)) (steps : List (List Action)) (bytes : List ℕ) : Type 0 where
+pub record Spells (trap : TrapValue) (circuit : CircuitValue) (placement : List (List Qubit))
+    (steps : List (List Action)) (bytes : List ℕ) : Type 0 where
   pub placed : IsPlacement trap circuit placement
   pub known : All (All (IsKnown trap circuit)) steps
   pub few : length steps < 2 ^ 64
@@ -42,13 +44,15 @@ pub record BeginsText (trap : TrapValue) (circuit : CircuitValue) (bytes : List 
 -- the first so many lines, each with its line end
 abbrev pub first_lines : ℕ → List ℕ → List ℕ
 first_lines number [] = []
-first_lines number (byte ∷ bytes) = if number == 0 then [] else byte ∷ first_lines (if byte == 10 then number - 1 else number) bytes
+first_lines number (byte ∷ bytes) =
+    if number == 0 then [] else byte ∷ first_lines (if byte == 10 then number - 1 else number) bytes
 
 -- how many lines have a line end
 abbrev pub whole_lines : List ℕ → ℕ
 whole_lines bytes = how_many (λ byte. byte == 10) bytes
 
--- The least number so that no text begins with that many of the lines; where the whole lines begin a text, but the bytes are none, one more than there are.
+-- The least number so that no text begins with that many of the lines; where the whole lines begin a text, but the
+-- bytes are none, one more than there are.
 pub record IsBadLine (trap : TrapValue) (circuit : CircuitValue) (bytes : List ℕ) (number : ℕ) : Type 0 where
   pub counted : 1 ≤ number
   pub before : (n : ℕ) → 1 ≤ n → n < number → BeginsText trap circuit (first_lines n bytes)

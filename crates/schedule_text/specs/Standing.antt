@@ -1,15 +1,15 @@
--- Lists of qubits in zones: none stands twice, and each zone has room for its list.
+-- Lists of qubits in zones: none occurs twice, and each zone has room for its list.
 use Rattle.std.specs.Prelude.{ℕ, ◌≤◌, Bool, List, [], ◌∷◌, length}
 use Rattle.qc_base.specs.declared.ids.Qubit.{Qubit}
 use Rattle.trap_model.specs.declared.parts.ZonePart.{ZonePart}
 use Rattle.step_rules.specs.Placement.{times}
 use Rattle.step_rules.specs.Flags.{AreFlags}
 
--- none stands twice
+-- none occurs twice
 abbrev pub AreOnce : List Qubit → Type 0
 AreOnce qubits = (k : ℕ) → times k qubits ≤ 1
 
--- the flags are those of the qubits, of which none stands twice
+-- the flags are those of the qubits, of which none occurs twice
 pub record AreMarked (marks : List Bool) (qubits : List Qubit) : Type 0 where
   pub flags : AreFlags marks qubits
   pub once : AreOnce qubits

@@ -1,4 +1,5 @@
--- The text of a schedule: the placement, then the steps with their actions, each on a line of its own. The format is this project's.
+-- The text of a schedule: the placement, then the steps with their actions, each on a line of its own. The format is
+-- this project's.
 use Rattle.std.specs.Prelude.{ℕ, ◌+◌, List, [], ◌∷◌, ◌++◌, length, codes, decimal, slice_get}
 use Rattle.std.specs.List.{flat_map}
 use Rattle.std.specs.Option.{option_map_or}
@@ -29,7 +30,8 @@ place_line circuit zone list = codes "place " ++ zone.name ++ labels_text circui
 abbrev pub place_lines : CircuitValue → List ZonePart → List (List Qubit) → List ℕ
 place_lines circuit [] lists = []
 place_lines circuit (zone ∷ zones) [] = []
-place_lines circuit (zone ∷ zones) (list ∷ lists) = place_line circuit zone list ++ place_lines circuit zones lists
+place_lines circuit (zone ∷ zones) (list ∷ lists) =
+    place_line circuit zone list ++ place_lines circuit zones lists
 
 -- a part of that number, printed
 abbrev pub at : {A : Type 0} → (A → List ℕ) → List A → ℕ → List ℕ
@@ -37,7 +39,8 @@ at print parts number = option_map_or print (slice_get parts number) []
 
 -- the numbers of the ions that carry these qubits, a space before each
 abbrev pub ions_text : List (List Qubit) → List Qubit → List ℕ
-ions_text placement qubits = flat_map (λ (qubit : Qubit). codes " " ++ decimal (ion_of placement qubit).0) qubits
+ions_text placement qubits =
+    flat_map (λ (qubit : Qubit). codes " " ++ decimal (ion_of placement qubit).0) qubits
 
 -- the ions of an operation, in the order of its qubits
 abbrev pub ion_words : List (List Qubit) → Op → List ℕ
@@ -61,17 +64,19 @@ zone_end trap zone end = place_text trap zone ++ codes " " ++ end_text end
 abbrev pub two_places : TrapValue → ℕ → ℕ → List ℕ
 two_places trap from to = place_text trap from ++ codes " " ++ place_text trap to
 
--- ---- the line of each kind of action; a number that is no place's, no junction's or no operation's prints nothing
+-- ---- the line of each kind of action; a number that is no place's, junction's or operation's prints nothing
 
 abbrev pub split_line : TrapValue → ℕ → End → ℕ → List ℕ
-split_line trap zone end count = codes "split " ++ zone_end trap zone end ++ codes " " ++ decimal count ++ codes "\n"
+split_line trap zone end count =
+    codes "split " ++ zone_end trap zone end ++ codes " " ++ decimal count ++ codes "\n"
 
 abbrev pub move_line : TrapValue → ℕ → ℕ → List ℕ
 move_line trap from to = codes "move " ++ two_places trap from to ++ codes "\n"
 
 abbrev pub cross_line : TrapValue → ℕ → ℕ → ℕ → List ℕ
 cross_line trap junction from to =
-    codes "cross " ++ at (λ name. name) trap.junctions junction ++ codes " " ++ two_places trap from to ++ codes "\n"
+    codes "cross " ++ at (λ name. name) trap.junctions junction ++ codes " " ++ two_places trap from to
+    ++ codes "\n"
 
 abbrev pub merge_line : TrapValue → ℕ → End → List ℕ
 merge_line trap zone end = codes "merge " ++ zone_end trap zone end ++ codes "\n"
@@ -81,7 +86,8 @@ swap_line trap zone index = codes "swap " ++ place_text trap zone ++ codes " " +
 
 abbrev pub performed_line : SettingValue → ℕ → ℕ → List ℕ
 performed_line setting zone op =
-    codes "op " ++ place_text setting.trap zone ++ codes " " ++ at (op_line setting.circuit setting.placement op) setting.circuit.ops op
+    codes "op " ++ place_text setting.trap zone ++ codes " "
+    ++ at (op_line setting.circuit setting.placement op) setting.circuit.ops op
 
 -- the line of an action
 abbrev pub action_line : SettingValue → Action → List ℕ
@@ -96,7 +102,8 @@ action_line setting (actions.Op zone op) = performed_line setting zone.0 op.0
 abbrev pub step_lines : SettingValue → ℕ → List (List Action) → List ℕ
 step_lines setting number [] = []
 step_lines setting number (step ∷ steps) =
-    codes "step " ++ decimal number ++ codes "\n" ++ flat_map (action_line setting) step ++ step_lines setting (number + 1) steps
+    codes "step " ++ decimal number ++ codes "\n" ++ flat_map (action_line setting) step
+    ++ step_lines setting (number + 1) steps
 
 -- the whole text: the head, the placement, the steps with their count, and the end
 abbrev pub schedule_text : SettingValue → List (List Action) → List ℕ

@@ -23,7 +23,8 @@ fn zone_end_until<'a>(trap: &Trap, bytes: &'a [u8], sign: u8) -> Option<((PlaceI
     requires gap { IsGap sign }
     ensures found { IfSome result (λ x. bytes.now ≡ zone_end trap.now x.0.0.0 x.0.1 ++ sign ∷ x.1.now) }
     ensures there { IfSome result (λ x. x.0.0.0 < place_count trap.now) }
-    ensures only { (zone : ℕ) (end : AnEnd) (rest : List ℕ) → zone < place_count trap.now → bytes.now ≡ zone_end trap.now zone end ++ sign ∷ rest
+    ensures only { (zone : ℕ) (end : AnEnd) (rest : List ℕ) → zone < place_count trap.now
+        → bytes.now ≡ zone_end trap.now zone end ++ sign ∷ rest
         → IsSomeAnd result (λ x. (x.0.0.0 ≡ zone) × (x.0.1 ≡ end) × (x.1.now ≡ rest)) }
 {
     let (zone, after) = place_until(trap, bytes, b' ')?;
@@ -36,7 +37,8 @@ fn two_places_line<'a>(trap: &Trap, bytes: &'a [u8]) -> Option<((PlaceId, PlaceI
     requires { IsTrap trap.now }
     ensures found { IfSome result (λ x. bytes.now ≡ two_places trap.now x.0.0.0 x.0.1.0 ++ 10 ∷ x.1.now) }
     ensures there { IfSome result (λ x. (x.0.0.0 < place_count trap.now) × (x.0.1.0 < place_count trap.now)) }
-    ensures only { (from to : ℕ) (rest : List ℕ) → from < place_count trap.now → to < place_count trap.now → bytes.now ≡ two_places trap.now from to ++ 10 ∷ rest
+    ensures only { (from to : ℕ) (rest : List ℕ) → from < place_count trap.now → to < place_count trap.now
+        → bytes.now ≡ two_places trap.now from to ++ 10 ∷ rest
         → IsSomeAnd result (λ x. (x.0.0.0 ≡ from) × (x.0.1.0 ≡ to) × (x.1.now ≡ rest)) }
 {
     let (from, after) = place_until(trap, bytes, b' ')?;
@@ -48,7 +50,8 @@ fn read_split<'a>(trap: &Trap, bytes: &'a [u8]) -> Option<((PlaceId, End, u32), 
     requires { IsTrap trap.now }
     ensures found { IfSome result (λ x. bytes.now ≡ split_line trap.now x.0.0.0 x.0.1 x.0.2 ++ x.1.now) }
     ensures there { IfSome result (λ x. x.0.0.0 < place_count trap.now) }
-    ensures only { (zone : ℕ) (end : AnEnd) (count : ℕ) (rest : List ℕ) → zone < place_count trap.now → count < 2 ^ 32
+    ensures only { (zone : ℕ) (end : AnEnd) (count : ℕ) (rest : List ℕ) → zone < place_count trap.now
+        → count < 2 ^ 32
         → bytes.now ≡ split_line trap.now zone end count ++ rest
         → IsSomeAnd result (λ x. (x.0.0.0 ≡ zone) × (x.0.1 ≡ end) × (x.0.2 ≡ count) × (x.1.now ≡ rest)) }
 {
@@ -76,8 +79,11 @@ fn read_cross<'a>(
 ) -> Option<((JunctionId, PlaceId, PlaceId), &'a [u8])>
     requires { IsTrap trap.now }
     ensures found { IfSome result (λ x. bytes.now ≡ cross_line trap.now x.0.0.0 x.0.1.0 x.0.2.0 ++ x.1.now) }
-    ensures there { IfSome result (λ x. (x.0.0.0 < length trap.now.junctions) × (x.0.1.0 < place_count trap.now) × (x.0.2.0 < place_count trap.now)) }
-    ensures only { (junction from to : ℕ) (rest : List ℕ) → junction < length trap.now.junctions → from < place_count trap.now → to < place_count trap.now
+    ensures there { IfSome result
+        (λ x. (x.0.0.0 < length trap.now.junctions) × (x.0.1.0 < place_count trap.now)
+        × (x.0.2.0 < place_count trap.now)) }
+    ensures only { (junction from to : ℕ) (rest : List ℕ) → junction < length trap.now.junctions
+        → from < place_count trap.now → to < place_count trap.now
         → bytes.now ≡ cross_line trap.now junction from to ++ rest
         → IsSomeAnd result (λ x. (x.0.0.0 ≡ junction) × (x.0.1.0 ≡ from) × (x.0.2.0 ≡ to) × (x.1.now ≡ rest)) }
 {
@@ -116,10 +122,12 @@ fn read_swap<'a>(trap: &Trap, bytes: &'a [u8]) -> Option<((PlaceId, u32), &'a [u
 // The zone and the number of an operation, and its line from the number on.
 fn numbered<'a>(trap: &Trap, bytes: &'a [u8]) -> Option<((PlaceId, u32), &'a [u8])>
     requires { IsTrap trap.now }
-    ensures found { IfSome result (λ x. bytes.now ≡ codes "op " ++ place_text trap.now x.0.0.0 ++ codes " " ++ x.1.now) }
+    ensures found { IfSome result
+        (λ x. bytes.now ≡ codes "op " ++ place_text trap.now x.0.0.0 ++ codes " " ++ x.1.now) }
     ensures there { IfSome result (λ x. x.0.0.0 < place_count trap.now) }
     ensures only { (zone number : ℕ) (line more : List ℕ) → zone < place_count trap.now → number < 2 ^ 32
-        → bytes.now ≡ codes "op " ++ place_text trap.now zone ++ codes " " ++ line → line ≡ decimal number ++ 32 ∷ more
+        → bytes.now ≡ codes "op " ++ place_text trap.now zone ++ codes " " ++ line
+        → line ≡ decimal number ++ 32 ∷ more
         → IsSomeAnd result (λ x. (x.0.0.0 ≡ zone) × (x.0.1 ≡ number) × (x.1.now ≡ line)) }
 {
     let words = strip_prefix(bytes, b"op ")?;
@@ -135,9 +143,14 @@ fn read_op<'a>(
 ) -> Result<Option<((PlaceId, OpId), &'a [u8])>, NoMemory>
     requires trap { IsTrap setting.now.trap }
     requires circuit { IsCircuit setting.now.circuit }
-    ensures found { IfOk result (λ o. IfSome o (λ x. bytes.now ≡ performed_line setting.now x.0.0.0 x.0.1.0 ++ x.1.now)) }
-    ensures there { IfOk result (λ o. IfSome o (λ x. (x.0.0.0 < place_count setting.now.trap) × (x.0.1.0 < length setting.now.circuit.ops))) }
-    ensures only { IfOk result (λ o. (zone op : ℕ) (rest : List ℕ) → zone < place_count setting.now.trap → op < length setting.now.circuit.ops
+    ensures found { IfOk result
+        (λ o. IfSome o (λ x. bytes.now ≡ performed_line setting.now x.0.0.0 x.0.1.0 ++ x.1.now)) }
+    ensures there { IfOk result
+        (λ o. IfSome o
+        (λ x. (x.0.0.0 < place_count setting.now.trap) × (x.0.1.0 < length setting.now.circuit.ops))) }
+    ensures only { IfOk result
+        (λ o. (zone op : ℕ) (rest : List ℕ) → zone < place_count setting.now.trap
+        → op < length setting.now.circuit.ops
         → bytes.now ≡ performed_line setting.now zone op ++ rest
         → IsSomeAnd o (λ x. (x.0.0.0 ≡ zone) × (x.0.1.0 ≡ op) × (x.1.now ≡ rest))) }
 {
@@ -172,8 +185,10 @@ pub fn read_action<'a>(
     requires circuit { IsCircuit setting.now.circuit }
     ensures found { IfOk result (λ o. IfSome o (λ x. bytes.now ≡ action_line setting.now x.0 ++ x.1.now)) }
     ensures known { IfOk result (λ o. IfSome o (λ x. IsKnown setting.now.trap setting.now.circuit x.0)) }
-    ensures only { IfOk result (λ o. (action : AnAction) (rest : List ℕ) → IsKnown setting.now.trap setting.now.circuit action
-        → bytes.now ≡ action_line setting.now action ++ rest → IsSomeAnd o (λ x. (x.0 ≡ action) × (x.1.now ≡ rest))) }
+    ensures only { IfOk result
+        (λ o. (action : AnAction) (rest : List ℕ) → IsKnown setting.now.trap setting.now.circuit action
+        → bytes.now ≡ action_line setting.now action ++ rest
+        → IsSomeAnd o (λ x. (x.0 ≡ action) × (x.1.now ≡ rest))) }
 {
     let trap = setting.trap;
     if let Some(((zone, end, count), rest)) = read_split(trap, bytes) {

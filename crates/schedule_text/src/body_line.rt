@@ -25,9 +25,12 @@ pub enum BodyLine {
 
 // What comes after the line of the next step, where fewer than so many have begun.
 fn read_step(bytes: &[u8], steps: u64, count: u64) -> Option<&[u8]>
-    ensures found { IfSome result (λ rest. bytes.now ≡ codes "step " ++ decimal (steps + 1) ++ codes "\n" ++ rest.now) }
+    ensures found { IfSome result
+        (λ rest. bytes.now ≡ codes "step " ++ decimal (steps + 1) ++ codes "\n" ++ rest.now) }
     ensures fewer { IfSome result (λ rest. steps < count) }
-    ensures only { (rest : List ℕ) → steps < count → bytes.now ≡ codes "step " ++ decimal (steps + 1) ++ codes "\n" ++ rest → IsSomeAnd result (λ x. x.now ≡ rest) }
+    ensures only { (rest : List ℕ) → steps < count
+        → bytes.now ≡ codes "step " ++ decimal (steps + 1) ++ codes "\n" ++ rest
+        → IsSomeAnd result (λ x. x.now ≡ rest) }
 {
     let digits = strip_prefix(bytes, b"step ")?;
     let (number, rest) = number_until(digits, b'\n')?;
@@ -42,7 +45,8 @@ fn read_step(bytes: &[u8], steps: u64, count: u64) -> Option<&[u8]>
 fn read_end(bytes: &[u8], steps: u64, count: u64) -> Option<&[u8]>
     ensures found { IfSome result (λ rest. bytes.now ≡ codes "end\n" ++ rest.now) }
     ensures all { IfSome result (λ rest. steps ≡ count) }
-    ensures only { (rest : List ℕ) → steps ≡ count → bytes.now ≡ codes "end\n" ++ rest → IsSomeAnd result (λ x. x.now ≡ rest) }
+    ensures only { (rest : List ℕ) → steps ≡ count → bytes.now ≡ codes "end\n" ++ rest
+        → IsSomeAnd result (λ x. x.now ≡ rest) }
 {
     if steps == count {
         strip_prefix(bytes, b"end\n")
@@ -51,7 +55,8 @@ fn read_end(bytes: &[u8], steps: u64, count: u64) -> Option<&[u8]>
     }
 }
 
-/// The line that the bytes begin with, where it may come after so many steps of so many in all, and what comes after it.
+/// The line that the bytes begin with, where it may come after so many steps of so many in all, and what comes after
+/// it.
 pub fn read_body_line<'a>(
     alloc: Global,
     setting: &Setting,
@@ -61,10 +66,17 @@ pub fn read_body_line<'a>(
 ) -> Result<Option<(BodyLine, &'a [u8])>, NoMemory>
     requires trap { IsTrap setting.now.trap }
     requires circuit { IsCircuit setting.now.circuit }
-    ensures found { IfOk result (λ o. IfSome o (λ x. bytes.now ≡ line_text setting.now (steps + 1) x.0 ++ x.1.now)) }
-    ensures may { IfOk result (λ o. IfSome o (λ x. (begun : List (List AnAction)) → length begun ≡ steps → MayFollow setting.now.trap setting.now.circuit count begun x.0)) }
-    ensures only { IfOk result (λ o. (begun : List (List AnAction)) (line : ABodyLine) (rest : List ℕ) → length begun ≡ steps → MayFollow setting.now.trap setting.now.circuit count begun line
-        → bytes.now ≡ line_text setting.now (steps + 1) line ++ rest → IsSomeAnd o (λ x. (x.0 ≡ line) × (x.1.now ≡ rest))) }
+    ensures found { IfOk result
+        (λ o. IfSome o (λ x. bytes.now ≡ line_text setting.now (steps + 1) x.0 ++ x.1.now)) }
+    ensures may { IfOk result
+        (λ o. IfSome o
+        (λ x. (begun : List (List AnAction)) → length begun ≡ steps
+        → MayFollow setting.now.trap setting.now.circuit count begun x.0)) }
+    ensures only { IfOk result
+        (λ o. (begun : List (List AnAction)) (line : ABodyLine) (rest : List ℕ) → length begun ≡ steps
+        → MayFollow setting.now.trap setting.now.circuit count begun line
+        → bytes.now ≡ line_text setting.now (steps + 1) line ++ rest
+        → IsSomeAnd o (λ x. (x.0 ≡ line) × (x.1.now ≡ rest))) }
 {
     if let Some(rest) = read_step(bytes, steps, count) {
         return Ok(Some((BodyLine::Step, rest)));

@@ -10,7 +10,8 @@ use trap_model::Trap;
 
 /// Two different pairs of placement and schedule have different texts.
 pub fn one_text(trap: &Trap, circuit: &Circuit)
-    ensures { (placement other : List (List Qubit)) (steps more : List (List Action)) (bytes : List ℕ) → Spells trap.now circuit.now placement steps bytes
+    ensures { (placement other : List (List Qubit)) (steps more : List (List Action)) (bytes : List ℕ)
+        → Spells trap.now circuit.now placement steps bytes
         → Spells trap.now circuit.now other more bytes → (placement ≡ other) × (steps ≡ more) }
 {
     let _zones = trap.zones();

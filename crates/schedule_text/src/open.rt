@@ -25,7 +25,7 @@ fn room(zones: &[ZonePart]) -> usize
     room
 }
 
-// How many qubits stand in the lists.
+// How many qubits are in the lists.
 fn standing(lists: &[Qubits]) -> usize
     requires { length (reading_order lists.now) < 2 ^ 32 }
     ensures { result ≡ length (reading_order lists.now) }
@@ -54,7 +54,7 @@ fn mark(flags: &mut Vec<bool>, list: &[Qubit]) -> bool
     true
 }
 
-// Whether each zone has room for its list, and no qubit stands twice.
+// Whether each zone has room for its list, and no qubit occurs twice.
 fn are_apart(
     alloc: Global,
     zones: &[ZonePart],
@@ -63,7 +63,8 @@ fn are_apart(
 ) -> Result<bool, NoMemory>
     requires qubits { All (λ qubit. qubit.0 < qubit_count circuit.now) (reading_order lists.now) }
     requires few { length lists.now ≤ length zones.now }
-    ensures { IfOk result (λ apart. IsTrue apart ↔ (AreIn zones.now lists.now × AreOnce (reading_order lists.now))) }
+    ensures { IfOk result
+        (λ apart. IsTrue apart ↔ (AreIn zones.now lists.now × AreOnce (reading_order lists.now))) }
 {
     let mut flags = vec![in alloc; false; circuit.qubits() as usize]?;
     for (zone, list) in lists.iter().enumerate() {

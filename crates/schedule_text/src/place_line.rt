@@ -14,8 +14,10 @@ use trap_model::ZonePart;
 
 // What comes after the zone's name in its line, and what comes after the line.
 fn words_of<'a>(zone: &ZonePart, bytes: &'a [u8]) -> Option<(&'a [u8], &'a [u8])>
-    ensures found { IfSome result (λ x. bytes.now ≡ codes "place " ++ zone.now.name ++ x.0.now ++ codes "\n" ++ x.1.now) }
-    ensures only { (words rest : List ℕ) → IsFree 10 words → bytes.now ≡ codes "place " ++ zone.now.name ++ words ++ codes "\n" ++ rest
+    ensures found { IfSome result
+        (λ x. bytes.now ≡ codes "place " ++ zone.now.name ++ x.0.now ++ codes "\n" ++ x.1.now) }
+    ensures only { (words rest : List ℕ) → IsFree 10 words
+        → bytes.now ≡ codes "place " ++ zone.now.name ++ words ++ codes "\n" ++ rest
         → IsSomeAnd result (λ x. (x.0.now ≡ words) × (x.1.now ≡ rest)) }
 {
     let line = strip_prefix(bytes, b"place ")?;
@@ -33,8 +35,11 @@ fn labels(
 ) -> Result<Option<Vec<Qubit>>, NoMemory>
     requires { IsCircuit circuit.now }
     ensures found { IfOk result (λ o. IfSome o (λ list. words.now ≡ labels_text circuit.now list.items)) }
-    ensures there { IfOk result (λ o. IfSome o (λ list. All (λ qubit. qubit.0 < qubit_count circuit.now) list.items)) }
-    ensures only { IfOk result (λ o. (list : List AQubit) → length list ≤ capacity → All (λ qubit. qubit.0 < qubit_count circuit.now) list
+    ensures there { IfOk result
+        (λ o. IfSome o (λ list. All (λ qubit. qubit.0 < qubit_count circuit.now) list.items)) }
+    ensures only { IfOk result
+        (λ o. (list : List AQubit) → length list ≤ capacity
+        → All (λ qubit. qubit.0 < qubit_count circuit.now) list
         → words.now ≡ labels_text circuit.now list → IsSomeAnd o (λ x. x.items ≡ list)) }
 {
     let mut list = Vec::new(alloc);
@@ -63,10 +68,14 @@ pub fn read_place_line<'a>(
     bytes: &'a [u8],
 ) -> Result<Option<(Qubits, &'a [u8])>, NoMemory>
     requires circuit { IsCircuit circuit.now }
-    ensures found { IfOk result (λ o. IfSome o (λ x. bytes.now ≡ place_line circuit.now zone.now x.0 ++ x.1.now)) }
+    ensures found { IfOk result
+        (λ o. IfSome o (λ x. bytes.now ≡ place_line circuit.now zone.now x.0 ++ x.1.now)) }
     ensures there { IfOk result (λ o. IfSome o (λ x. All (λ qubit. qubit.0 < qubit_count circuit.now) x.0)) }
-    ensures only { IfOk result (λ o. (list : List AQubit) (rest : List ℕ) → length list ≤ zone.now.capacity → All (λ qubit. qubit.0 < qubit_count circuit.now) list
-        → bytes.now ≡ place_line circuit.now zone.now list ++ rest → IsSomeAnd o (λ x. (x.0 ≡ list) × (x.1.now ≡ rest))) }
+    ensures only { IfOk result
+        (λ o. (list : List AQubit) (rest : List ℕ) → length list ≤ zone.now.capacity
+        → All (λ qubit. qubit.0 < qubit_count circuit.now) list
+        → bytes.now ≡ place_line circuit.now zone.now list ++ rest
+        → IsSomeAnd o (λ x. (x.0 ≡ list) × (x.1.now ≡ rest))) }
 {
     let Some((words, rest)) = words_of(zone, bytes) else {
         return Ok(None);

@@ -47,7 +47,8 @@ fn push_place_at(
     k: usize,
 ) -> Result<(), NoMemory>
     requires { k < length zones.now }
-    ensures { OnOk result (out.new.items ++ place_lines circuit.now (drop (k + 1) zones.now) (drop (k + 1) lists.now)
+    ensures { OnOk result
+        (out.new.items ++ place_lines circuit.now (drop (k + 1) zones.now) (drop (k + 1) lists.now)
         ≡ out.old.items ++ place_lines circuit.now (drop k zones.now) (drop k lists.now)) }
 {
     if k >= lists.len() {
@@ -77,7 +78,8 @@ fn push_places(
     trap: &Trap,
     placement: &Placement,
 ) -> Result<(), NoMemory>
-    ensures { OnOk result (out.new.items ≡ out.old.items ++ place_lines circuit.now trap.now.zones placement.now) }
+    ensures { OnOk result
+        (out.new.items ≡ out.old.items ++ place_lines circuit.now trap.now.zones placement.now) }
 {
     push_place_lines(out, circuit, trap.zones(), placement.lists())
 }
@@ -275,7 +277,8 @@ pub fn print(
     placement: &Placement,
     schedule: &Schedule,
 ) -> Result<Vec<u8>, NoMemory>
-    ensures { IfOk result (λ text. text.items ≡ schedule_text (setting_of trap.now circuit.now placement.now) schedule.now) }
+    ensures { IfOk result
+        (λ text. text.items ≡ schedule_text (setting_of trap.now circuit.now placement.now) schedule.now) }
 {
     let setting = Setting {
         trap,

@@ -46,7 +46,7 @@ fn bad_line(bytes: &[u8], rest: &[u8]) -> TextFault
     }
 }
 
-// Adds the list of the next zone, where its line comes next and the list can stand there, and answers what comes after.
+// Adds the list of the next zone, where its line comes next and the list fits there, and answers what comes after.
 fn read_list<'a>(
     alloc: Global,
     trap: &Trap,
@@ -60,8 +60,11 @@ fn read_list<'a>(
     requires opened { Opens trap.now circuit.now lists.old.items }
     requires next { slice_get trap.now.zones (length lists.old.items) ≡ Some zone.now }
     requires within { length lists.old.items < length trap.now.zones }
-    ensures grown { IfOk result (λ o. MatchOption o (Sticks trap.now circuit.now (head_text trap.now circuit.now lists.old.items) bytes.now)
-        (λ rest. head_text trap.now circuit.now lists.new.items ++ rest.now ≡ head_text trap.now circuit.now lists.old.items ++ bytes.now)) }
+    ensures grown { IfOk result
+        (λ o. MatchOption o
+        (Sticks trap.now circuit.now (head_text trap.now circuit.now lists.old.items) bytes.now)
+        (λ rest. head_text trap.now circuit.now lists.new.items ++ rest.now
+        ≡ head_text trap.now circuit.now lists.old.items ++ bytes.now)) }
     ensures opens { IfOk result (λ o. IfSome o (λ rest. Opens trap.now circuit.now lists.new.items)) }
     ensures len { IfOk result (λ o. IfSome o (λ rest. length lists.new.items ≡ length lists.old.items + 1)) }
 {
@@ -145,7 +148,8 @@ fn read_body(
     requires circuit { IsCircuit setting.now.circuit }
     requires placed { IsPlacement setting.now.trap setting.now.circuit setting.now.placement }
     requires parts { bytes.now ≡ opened_text setting.now count ++ lines.now }
-    ensures found { IfOk result (λ schedule. Spells setting.now.trap setting.now.circuit setting.now.placement schedule bytes.now) }
+    ensures found { IfOk result
+        (λ schedule. Spells setting.now.trap setting.now.circuit setting.now.placement schedule bytes.now) }
     ensures fault { IfErr result (Refuses setting.now.trap setting.now.circuit bytes.now) }
 {
     let mut schedule = Schedule::new(alloc);
@@ -175,11 +179,13 @@ pub fn read(
     bytes: &[u8],
 ) -> Result<(Placement, Schedule), TextFault>
     ensures found { IfOk result (λ pair. Spells trap.now circuit.now pair.0 pair.1 bytes.now) }
-    ensures only { IfOk result (λ pair. (placement : List (List AQubit)) (steps : List (List AnAction)) → Spells trap.now circuit.now placement steps bytes.now
+    ensures only { IfOk result
+        (λ pair. (placement : List (List AQubit)) (steps : List (List AnAction))
+        → Spells trap.now circuit.now placement steps bytes.now
         → (placement ≡ pair.0) × (steps ≡ pair.1)) }
     ensures fault { IfErr result (Refuses trap.now circuit.now bytes.now) }
 {
-    // These calls tell that the trap and the circuit are sound.
+    // These calls give that the trap and the circuit are sound.
     let _zones = trap.zones();
     let _ops = circuit.ops();
     if !fits(trap, circuit) {

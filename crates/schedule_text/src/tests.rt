@@ -402,7 +402,7 @@ fn is_bad_at(alloc: Global, trap: &Trap, circuit: &Circuit, bytes: &[u8], number
     read(alloc, trap, circuit, bytes).err() == Some(TextFault::Line { number })
 }
 
-/// A line's number, what stands in its place, and the first bad line then.
+/// A line's number, what is in its place, and the first bad line then.
 const EDITS: [(usize, &[u8], u64); 44] = [
     (1, b"qccd schedule 2\n", 1),
     (1, b"qccd  schedule 1\n", 1),

@@ -22,7 +22,8 @@ pub fn place_until<'a>(trap: &Trap, bytes: &'a [u8], sign: u8) -> Option<(PlaceI
     requires gap { IsGap sign }
     ensures found { IfSome result (λ x. bytes.now ≡ place_text trap.now x.0.0 ++ sign ∷ x.1.now) }
     ensures there { IfSome result (λ x. x.0.0 < place_count trap.now) }
-    ensures only { (place : ℕ) (rest : List ℕ) → place < place_count trap.now → bytes.now ≡ place_text trap.now place ++ sign ∷ rest
+    ensures only { (place : ℕ) (rest : List ℕ) → place < place_count trap.now
+        → bytes.now ≡ place_text trap.now place ++ sign ∷ rest
         → IsSomeAnd result (λ x. (x.0.0 ≡ place) × (x.1.now ≡ rest)) }
 {
     let (word, rest) = split_once(bytes, sign)?;
@@ -34,9 +35,11 @@ pub fn place_until<'a>(trap: &Trap, bytes: &'a [u8], sign: u8) -> Option<(PlaceI
 pub fn junction_until<'a>(trap: &Trap, bytes: &'a [u8], sign: u8) -> Option<(JunctionId, &'a [u8])>
     requires trap { IsTrap trap.now }
     requires gap { IsGap sign }
-    ensures found { IfSome result (λ x. bytes.now ≡ at (λ name. name) trap.now.junctions x.0.0 ++ sign ∷ x.1.now) }
+    ensures found { IfSome result
+        (λ x. bytes.now ≡ at (λ name. name) trap.now.junctions x.0.0 ++ sign ∷ x.1.now) }
     ensures there { IfSome result (λ x. x.0.0 < length trap.now.junctions) }
-    ensures only { (junction : ℕ) (rest : List ℕ) → junction < length trap.now.junctions → bytes.now ≡ at (λ name. name) trap.now.junctions junction ++ sign ∷ rest
+    ensures only { (junction : ℕ) (rest : List ℕ) → junction < length trap.now.junctions
+        → bytes.now ≡ at (λ name. name) trap.now.junctions junction ++ sign ∷ rest
         → IsSomeAnd result (λ x. (x.0.0 ≡ junction) × (x.1.now ≡ rest)) }
 {
     let (word, rest) = split_once(bytes, sign)?;
@@ -86,7 +89,8 @@ pub fn label_after<'a>(circuit: &Circuit, bytes: &'a [u8]) -> Option<(Qubit, &'a
     ensures found { IfSome result (λ x. bytes.now ≡ codes " " ++ label circuit.now x.0 ++ x.1.now) }
     ensures there { IfSome result (λ x. x.0.0 < qubit_count circuit.now) }
     ensures ends { IfSome result (λ x. EndsWord 32 x.1.now) }
-    ensures only { (qubit : AQubit) (rest : List ℕ) → qubit.0 < qubit_count circuit.now → EndsWord 32 rest → bytes.now ≡ codes " " ++ label circuit.now qubit ++ rest
+    ensures only { (qubit : AQubit) (rest : List ℕ) → qubit.0 < qubit_count circuit.now → EndsWord 32 rest
+        → bytes.now ≡ codes " " ++ label circuit.now qubit ++ rest
         → IsSomeAnd result (λ x. (x.0 ≡ qubit) × (x.1.now ≡ rest)) }
 {
     let words = strip_prefix(bytes, b" ")?;
@@ -98,7 +102,8 @@ pub fn label_after<'a>(circuit: &Circuit, bytes: &'a [u8]) -> Option<(Qubit, &'a
 /// How many steps the line says that there are, and what comes after it.
 pub fn read_count(bytes: &[u8]) -> Option<(u64, &[u8])>
     ensures found { IfSome result (λ x. bytes.now ≡ (codes "steps " ++ decimal x.0 ++ codes "\n") ++ x.1.now) }
-    ensures only { (count : ℕ) (rest : List ℕ) → count < 2 ^ 64 → bytes.now ≡ (codes "steps " ++ decimal count ++ codes "\n") ++ rest
+    ensures only { (count : ℕ) (rest : List ℕ) → count < 2 ^ 64
+        → bytes.now ≡ (codes "steps " ++ decimal count ++ codes "\n") ++ rest
         → IsSomeAnd result (λ x. (x.0 ≡ count) × (x.1.now ≡ rest)) }
 {
     let number = strip_prefix(bytes, b"steps ")?;

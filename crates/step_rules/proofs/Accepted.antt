@@ -6,7 +6,7 @@ use Rattle.std.proofs.lemmas.Bool.{le-leb, cases_Bool, cases_lt, cond-true, eq-e
 use Rattle.std.proofs.lemmas.List.Elements.{All-head, All-tail}
 use Rattle.qc_base.specs.declared.ids.Qubit.{Qubit}
 use Rattle.circuit_core.specs.Circuit.{CircuitValue, qubit_count}
-use Rattle.circuit_core.specs.Deciding.{stands}
+use Rattle.circuit_core.specs.Deciding.{is_listed}
 use Rattle.trap_model.specs.Trap.{TrapValue, limit_of}
 use Rattle.step_rules.specs.Placement.{IsPlacement, reading_order, times, first_repeated, zone_fault, zones_fault, missing_fault, placement_of}
 use Rattle.step_rules.proofs.Reading.{times-append, times_none, times_some}
@@ -33,7 +33,7 @@ none_repeated before [] once = refl
 none_repeated before (q ∷ list) once =
     let same : (before ++ q ∷ []) ++ list ≡ before ++ q ∷ list = append_assoc before (q ∷ []) list in
     let later = none_repeated (before ++ q ∷ []) list (λ k. subst (λ (l : List Qubit). times k l ≤ 1) (sym same) (once k)) in
-    elim (cases_Bool (stands q.0 before)) [
+    elim (cases_Bool (is_listed q.0 before)) [
       | inl there ↦ absurd (omega (arith, times_some q.0 before there, times_here q list, times-append q.0 before (q ∷ list), once q.0))
       | inr new ↦ rw (new, later) refl
     ]
@@ -57,15 +57,15 @@ none_found : (test : ℕ → Bool) (first count : ℕ) → ((k : ℕ) → first 
 none_found test first zero fails = refl
 none_found test first (suc count) fails = rw (fails first (omega arith) (omega arith)) (none_found test (first + 1) count (λ k low high. fails k (omega (arith, low)) (omega (arith, high))))
 
-stands_so : (k : ℕ) (list : List Qubit) → times k list ≡ 1 → not (stands k list) ≡ false
-stands_so k list once = elim (cases_Bool (stands k list)) [
+stands_so : (k : ℕ) (list : List Qubit) → times k list ≡ 1 → not (is_listed k list) ≡ false
+stands_so k list once = elim (cases_Bool (is_listed k list)) [
   | inl there ↦ rw there refl
   | inr missing ↦ absurd (omega (arith, once, times_none k list missing))
 ]
 
 none_missing : (circuit : CircuitValue) (lists : List (List Qubit)) → ((k : ℕ) → k < qubit_count circuit → times k (reading_order lists) ≡ 1) → missing_fault circuit lists ≡ None
 none_missing circuit lists once =
-    let test : ℕ → Bool = λ number. not (stands number (reading_order lists)) in
+    let test : ℕ → Bool = λ number. not (is_listed number (reading_order lists)) in
     let none : find test (range_with_len 0 (qubit_count circuit)) ≡ None = none_found test 0 (qubit_count circuit) (λ k low high. stands_so k (reading_order lists) (once k (omega (arith, high)))) in
     rw none refl
 

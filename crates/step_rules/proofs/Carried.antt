@@ -5,6 +5,7 @@ use Rattle.std.specs.Option.{option_map_or}
 use Rattle.std.proofs.lemmas.List.{get_or-set_other}
 use Rattle.std.proofs.lemmas.List.Elements.{All-head, All-tail}
 use Rattle.qc_base.specs.declared.ids.Ion.{Ion}
+use Rattle.circuit_core.specs.Order.{is_performed}
 use Rattle.trap_model.specs.Trap.{TrapValue, is_zone}
 use Rattle.trap_model.specs.Channels.{split_channel, move_channel, cross_channel, merge_channel}
 use Rattle.trap_model.specs.declared.channel.Channel.{Channel}
@@ -15,7 +16,7 @@ use Rattle.step_rules.specs.declared.action.Action.TheVariants as actions
 use Rattle.step_rules.specs.Setting.{SettingValue}
 use Rattle.step_rules.specs.ActionChannel.{passing, transfer, source, target}
 use Rattle.step_rules.specs.Steps.{Spot, place, footprint, Agree, AreApart, after, after_passing, after_step}
-use Rattle.step_rules.specs.Guards.{Guard, Passes, PassesTransport, guard, first_broken, guards, transport_guards, is_performed, is_able_for, are_among}
+use Rattle.step_rules.specs.Guards.{Guard, Passes, PassesTransport, guard, first_broken, guards, transport_guards, is_able_for, are_among}
 use Rattle.step_rules.specs.declared.action.Rule.TheVariants.{NoPlace, NotOp, NotAble, Absent}
 use Rattle.step_rules.proofs.Effects.{Inside, inside}
 

@@ -1,4 +1,4 @@
--- Qubits below a number, of which none stands twice: how many they are.
+-- Qubits below a number, of which none occurs twice: how many they are.
 use Rattle.std.proofs.Common.{◌≡◌, ℕ, zero, suc, ◌+◌, ◌<◌, ◌≤◌, List, [], ◌∷◌, length, true, false, refl, sym, subst, ◌∙◌, inl, inr, arith}
 use Rattle.std.specs.Prelude.{◌==◌, All}
 use Rattle.std.proofs.lemmas.Bool.{eq-eqb, ne_eqb, cases_eq}
@@ -6,7 +6,7 @@ use Rattle.std.proofs.lemmas.List.Elements.{All-head, All-tail}
 use Rattle.qc_base.specs.declared.ids.Qubit.{Qubit}
 use Rattle.step_rules.specs.Placement.{times}
 
--- how often the qubits below the number stand there together
+-- how often the qubits below the number are there together
 abbrev total : ℕ → List Qubit → ℕ
 total zero xs = 0
 total (suc n) xs = times n xs + total n xs
@@ -49,10 +49,10 @@ each_once (suc n) xs once many k h = elim (cases_eq k n) [
   | inr other ↦ each_once n xs once (omega (arith, once n)) k (omega arith)
 ]
 
--- where none stands twice, and there are no fewer, each stands once
+-- where none occurs twice, and there are no fewer, each occurs once
 pub all_once : (n : ℕ) (xs : List Qubit) → All (λ (qubit : Qubit). qubit.0 < n) xs → ((k : ℕ) → times k xs ≤ 1) → n ≤ length xs → (k : ℕ) → k < n → times k xs ≡ 1
 all_once n xs all once many k h = each_once n xs once (omega (arith, total_length n xs all)) k h
 
--- and where each stands once, there are as many
+-- and where each occurs once, there are as many
 pub counted : (n : ℕ) (xs : List Qubit) → All (λ (qubit : Qubit). qubit.0 < n) xs → ((k : ℕ) → k < n → times k xs ≡ 1) → length xs ≡ n
 counted n xs all once = sym (total_length n xs all) ∙ total_each n xs once

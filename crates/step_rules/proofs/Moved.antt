@@ -75,26 +75,26 @@ some_there (ion ∷ ions) e = omega arith
 
 -- ---- the slot that a zone's end is joined with is no zone
 
-end_behind : (trap : TrapValue) (segment : ℕ) (f : End) → length trap.zones ≤ first_slot trap segment → 1 ≤ slots_of trap segment → length trap.zones ≤ (slot_end trap segment f).slot
-end_behind trap segment A begins some = begins
-end_behind trap segment B begins some = omega arith
+end_after_zones : (trap : TrapValue) (segment : ℕ) (f : End) → length trap.zones ≤ first_slot trap segment → 1 ≤ slots_of trap segment → length trap.zones ≤ (slot_end trap segment f).slot
+end_after_zones trap segment A begins some = begins
+end_after_zones trap segment B begins some = omega arith
 
-slot_behind : (trap : TrapValue) (zone : ℕ) (end : End) (link : Link) (s : SlotEnd) → IsTrap trap → IsLink trap link → docked_by trap zone end link ≡ Some s → length trap.zones ≤ s.slot
-slot_behind trap zone end (links.Arm segment e junction) s sound known is = absurd cc
-slot_behind trap zone end (links.Dock other e segment f) s sound known is =
+slot_after_zones : (trap : TrapValue) (zone : ℕ) (end : End) (link : Link) (s : SlotEnd) → IsTrap trap → IsLink trap link → docked_by trap zone end link ≡ Some s → length trap.zones ≤ s.slot
+slot_after_zones trap zone end (links.Arm segment e junction) s sound known is = absurd cc
+slot_after_zones trap zone end (links.Dock other e segment f) s sound known is =
     let row = row_of trap segment sound known.1 in
     let same : slot_end trap segment f ≡ s = (cond_some (zone == other && same_end end e) (slot_end trap segment f) s is).1 in
-    subst (λ (t : SlotEnd). length trap.zones ≤ t.slot) same (end_behind trap segment f row.begins row.some)
+    subst (λ (t : SlotEnd). length trap.zones ≤ t.slot) same (end_after_zones trap segment f row.begins row.some)
 
 either : {X : Type 0} (a b : Option X) (x : X) → option_or a b ≡ Some x → (a ≡ Some x) ⊎ (b ≡ Some x)
 either None b x e = inr e
 either (Some y) b x e = inl e
 
-links_behind : (trap : TrapValue) (zone : ℕ) (end : End) (ls : List Link) (s : SlotEnd) → IsTrap trap → AreLinks trap ls → first_of (docked_by trap zone end) ls ≡ Some s → length trap.zones ≤ s.slot
-links_behind trap zone end [] s sound known e = absurd cc
-links_behind trap zone end (link ∷ ls) s sound known e = elim (either (docked_by trap zone end link) (first_of (docked_by trap zone end) ls) s e) [
-  | inl here ↦ slot_behind trap zone end link s sound known.0 here
-  | inr there ↦ links_behind trap zone end ls s sound known.1 there
+links_after_zones : (trap : TrapValue) (zone : ℕ) (end : End) (ls : List Link) (s : SlotEnd) → IsTrap trap → AreLinks trap ls → first_of (docked_by trap zone end) ls ≡ Some s → length trap.zones ≤ s.slot
+links_after_zones trap zone end [] s sound known e = absurd cc
+links_after_zones trap zone end (link ∷ ls) s sound known e = elim (either (docked_by trap zone end link) (first_of (docked_by trap zone end) ls) s e) [
+  | inl here ↦ slot_after_zones trap zone end link s sound known.0 here
+  | inr there ↦ links_after_zones trap zone end ls s sound known.1 there
 ]
 
 mapped : {X Y : Type 0} (f : X → Y) (o : Option X) (y : Y) → option_map f o ≡ Some y → (x : X) × (o ≡ Some x) × (f x ≡ y)
@@ -108,8 +108,8 @@ load_same trap None b e = absurd cc
 load_same trap (Some s) None e = absurd cc
 load_same trap (Some s) (Some t) e = ap (λ (n : ℕ). option_map_or (λ (segment : SegmentPart). segment.load) (slice_get trap.segments n) 0) (eqb-true s.segment t.segment e)
 
-behind_zones : (trap : TrapValue) (place : ℕ) → is_slot trap place ≡ true → length trap.zones ≤ place
-behind_zones trap place e = ltb-false place (length trap.zones) (not-true (is_zone trap place) (and_parts (not (is_zone trap place)) (nat_lt place (place_count trap)) e).0)
+after_zones_of : (trap : TrapValue) (place : ℕ) → is_slot trap place ≡ true → length trap.zones ≤ place
+after_zones_of trap place e = ltb-false place (length trap.zones) (not-true (is_zone trap place) (and_parts (not (is_zone trap place)) (nat_lt place (place_count trap)) e).0)
 
 slot_limit : (trap : TrapValue) (place : ℕ) → length trap.zones ≤ place → limit_of trap place ≡ option_map_or (load_of trap) (slot_at trap place) 0
 slot_limit trap place h = ap (λ (o : Option ZonePart). option_map_or (λ (zone : ZonePart). zone.capacity) o (option_map_or (load_of trap) (slot_at trap place) 0)) (slice_get_past trap.zones place h)
@@ -150,7 +150,7 @@ move_pass trap config from to channel e is within =
     let none : length (list_at config channel.to.0) ≡ 0 = none_there (list_at config channel.to.0) all.3 in
     let one : same_segment (slot_at trap from) (slot_at trap to) ≡ true = in_one_segment (same_segment (slot_at trap from) (slot_at trap to)) (cond (to == from + 1) (Some (channel_of Move from B to A None)) (cond (from == to + 1) (Some (channel_of Move from A to B None)) None)) channel is in
     let same : limit_of trap from ≡ limit_of trap to =
-    slot_limit trap from (behind_zones trap from slots.0) ∙ load_same trap (slot_at trap from) (slot_at trap to) one ∙ sym (slot_limit trap to (behind_zones trap to slots.1)) in
+    slot_limit trap from (after_zones_of trap from slots.0) ∙ load_same trap (slot_at trap from) (slot_at trap to) one ∙ sym (slot_limit trap to (after_zones_of trap to slots.1)) in
     let same_ends : limit_of trap channel.from.0 ≡ limit_of trap channel.to.0 = sym (ap (limit_of trap) ends.0) ∙ same ∙ ap (limit_of trap) ends.1 in
     record { apart = apart_by config channel.from.0 channel.to.0 some none; enough = omega arith; fits = omega arith }
 
@@ -174,10 +174,10 @@ merge_pass trap config zone end channel sound e is =
     let slot = mapped (merge zone end) (joined_slot trap zone end) channel is in
     let from : slot.0.slot ≡ channel.from.0 = ap (λ (x : Channel). x.from.0) slot.2 in
     let to : zone ≡ channel.to.0 = ap (λ (x : Channel). x.to.0) slot.2 in
-    let behind : length trap.zones ≤ slot.0.slot = links_behind trap zone end (links_of trap) slot.0 sound (links_known trap) slot.1 in
+    let after_zones : length trap.zones ≤ slot.0.slot = links_after_zones trap zone end (links_of trap) slot.0 sound (links_known trap) slot.1 in
     let in_front : zone < length trap.zones = ltb-true zone (length trap.zones) all.0 in
     let room : length (list_at config channel.from.0) + length (list_at config channel.to.0) ≤ limit_of trap channel.to.0 = leb-true (length (list_at config channel.from.0) + length (list_at config channel.to.0)) (limit_of trap channel.to.0) all.3 in
-    record { apart = λ same. absurd (omega (arith, from, to, behind, in_front, same)); enough = omega arith; fits = omega arith }
+    record { apart = λ same. absurd (omega (arith, from, to, after_zones, in_front, same)); enough = omega arith; fits = omega arith }
 
 pub may_pass : (trap : TrapValue) (config : List (List Ion)) (action : Action) (channel : Channel) → IsTrap trap → length (list_at config channel.from.0) ≤ limit_of trap channel.from.0 → PassesTransport trap config action
     → channel_for trap action ≡ Some channel → MayPass trap config channel (passing action (list_at config channel.from.0))

@@ -15,7 +15,7 @@ use Rattle.trap_model.specs.Build.{IsTrap}
 use Rattle.trap_model.specs.declared.parts.ZonePart.{ZonePart}
 use Rattle.step_rules.specs.declared.placement.GivenFault.{GivenFault}
 use Rattle.step_rules.specs.declared.placement.GivenFault.TheVariants.{Repeated, Full, Missing}
-use Rattle.circuit_core.specs.Deciding.{stands}
+use Rattle.circuit_core.specs.Deciding.{is_listed}
 use Rattle.step_rules.specs.Placement.{reading_order, times, first_repeated, zone_fault, zones_fault, missing_fault, unless_fault, placement_of, IsPlacement, IsNumbered}
 use Rattle.step_rules.specs.Flags.{AreFlags}
 use Rattle.step_rules.proofs.Reading.{times-append, times_none, times_some, find_none, find_same}
@@ -48,7 +48,7 @@ once_more n before q b new once = elim (cases_eq q.0 n) [
 once_each : (before list : List Qubit) → first_repeated before list ≡ None → ((n : ℕ) → times n before ≤ 1) → (n : ℕ) → times n (before ++ list) ≤ 1
 once_each before [] e once n = omega (arith, once n, times-append n before [])
 once_each before (q ∷ list) e once n =
-    let parts = unrepeated (stands q.0 before) q (first_repeated (before ++ q ∷ []) list) e in
+    let parts = unrepeated (is_listed q.0 before) q (first_repeated (before ++ q ∷ []) list) e in
     let grown : (m : ℕ) → times m (before ++ q ∷ []) ≤ 1 =
     λ m. omega (arith, times-append m before (q ∷ []), once_more m before q true (λ same. subst (λ (k : ℕ). times k before ≡ 0) same (times_none q.0 before parts.0)) (once m)) in
     let same : (before ++ q ∷ []) ++ list ≡ before ++ q ∷ list = append_assoc before (q ∷ []) list in
@@ -95,11 +95,11 @@ pub is_placement : (trap : TrapValue) (circuit : CircuitValue) (lists : List (Li
 is_placement trap circuit lists e zones qubits =
     let clean = neither (zones_fault trap 0 [] lists) (missing_fault circuit lists) (no_fault _ lists e) in
     let fit = zones_fit trap 0 [] lists clean.0 (λ n. omega arith) in
-    let all_there = find_none (λ number. not (stands number (reading_order lists))) 0 (qubit_count circuit) (no_value _ _ clean.1) in
+    let all_there = find_none (λ number. not (is_listed number (reading_order lists))) 0 (qubit_count circuit) (no_value _ _ clean.1) in
     record {
       zones = zones;
       qubits = qubits;
-      once = λ k h. omega (arith, fit.once k, times_some k (reading_order lists) (not-false (stands k (reading_order lists)) (all_there k (omega arith) (omega arith))));
+      once = λ k h. omega (arith, fit.once k, times_some k (reading_order lists) (not-false (is_listed k (reading_order lists)) (all_there k (omega arith) (omega arith))));
       room = λ zone list f. let same : 0 + zone ≡ zone = omega arith in subst (λ (z : ℕ). length list ≤ limit_of trap z) same (fit.room zone list f);
     }
 
@@ -176,7 +176,7 @@ pub answer_fault : (trap : TrapValue) (circuit : CircuitValue) (lists : List (Li
 answer_fault trap circuit lists fault e = ap (λ (o : Option GivenFault). unless_fault (option_or o (missing_fault circuit lists)) lists) e
 
 pub answer_missing : (trap : TrapValue) (circuit : CircuitValue) (lists : List (List Qubit)) (number : Option ℕ) → zones_fault trap 0 [] lists ≡ None
-    → find (λ k. not (stands k (reading_order lists))) (range_with_len 0 (qubit_count circuit)) ≡ number → placement_of trap circuit lists ≡ unless_fault (option_map (λ k. Missing (record { 0 = k })) number) lists
+    → find (λ k. not (is_listed k (reading_order lists))) (range_with_len 0 (qubit_count circuit)) ≡ number → placement_of trap circuit lists ≡ unless_fault (option_map (λ k. Missing (record { 0 = k })) number) lists
 answer_missing trap circuit lists number e found =
     ap (λ (o : Option GivenFault). unless_fault (option_or o (missing_fault circuit lists)) lists) e
     ∙ ap (λ (o : Option ℕ). unless_fault (option_map (λ k. Missing (record { 0 = k })) o) lists) found
@@ -233,8 +233,8 @@ decided trap circuit lists given flags slice k number same past so_far len are r
     let whole : AreFlags flags (reading_order lists) = subst (λ (l : List (List Qubit)). AreFlags flags (reading_order l)) (take_all k lists past) are in
     let clean : zones_fault trap 0 [] lists ≡ None = so_far ∙ ap (zones_fault trap k (reading_order (take k lists))) (drop_all k lists past) in
     let count : length slice ≡ qubit_count circuit = ap length read ∙ len in
-    let is : find (λ n. not (stands n (reading_order lists))) (range_with_len 0 (qubit_count circuit)) ≡ number =
+    let is : find (λ n. not (is_listed n (reading_order lists))) (range_with_len 0 (qubit_count circuit)) ≡ number =
     sym (found ∙ ap (λ (m : ℕ). find (λ n. not (get_or slice n false)) (range_with_len 0 m)) count
-    ∙ find_same (λ n. not (get_or slice n false)) (λ n. not (stands n (reading_order lists))) 0 (qubit_count circuit)
+    ∙ find_same (λ n. not (get_or slice n false)) (λ n. not (is_listed n (reading_order lists))) 0 (qubit_count circuit)
     (λ n low high. ap (λ (s : List Bool). not (get_or s n false)) read ∙ ap not (whole n (omega (arith, high, len))))) in
     ap (placement_of trap circuit) (sym same) ∙ answer_missing trap circuit lists number clean is ∙ ap (unless_fault (option_map (λ n. Missing (record { 0 = n })) number)) same

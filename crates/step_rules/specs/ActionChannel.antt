@@ -1,4 +1,4 @@
--- The channel that the ions of an action go through, and what stands at its two ends.
+-- The channel that the ions of an action go through, and what is at its two ends.
 use Rattle.std.specs.Prelude.{ℕ, ◌<◌, List, [], length, Option, None}
 use Rattle.std.specs.Option.{option_map_or}
 use Rattle.qc_base.specs.declared.ids.Ion.{Ion}
@@ -38,7 +38,14 @@ passing _ ions = length ions
 
 -- so many ions go through the channel
 abbrev pub transfer : Channel → ℕ → Transfer
-transfer channel count = record { from = channel.from; from_end = channel.from_end; to = channel.to; to_end = channel.to_end; count = count }
+transfer channel count =
+    record {
+      from = channel.from;
+      from_end = channel.from_end;
+      to = channel.to;
+      to_end = channel.to_end;
+      count = count;
+    }
 
 -- both its places are there
 pub record IsWithin (trap : TrapValue) (channel : Channel) : Type 0 where

@@ -17,7 +17,8 @@ HaveRoom trap rooms = (place : ℕ) → place < length rooms → limit_of trap p
 -- it has the places of the trap, none above its limit, and room for that many in each
 pub record IsConfigOf (trap : TrapValue) (config : ConfigValue) : Type 0 where
   pub places : length config.lists ≡ place_count trap
-  pub within : (place : ℕ) → place < place_count trap → length (list_at config.lists place) ≤ limit_of trap place
+  pub within : (place : ℕ) → place < place_count trap
+      → length (list_at config.lists place) ≤ limit_of trap place
   pub room : (place : ℕ) → place < place_count trap → limit_of trap place ≤ slice_index config.rooms place
 
 -- ---- on lists alone

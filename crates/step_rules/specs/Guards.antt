@@ -1,12 +1,13 @@
--- The guards of an action, in their order. Each speaks of the trap, the circuit, the placement and the places that the action works on.
+-- The guards of an action, in their order. Each speaks of the trap, the circuit, the placement and the places that
+-- the action works on.
 use Rattle.std.specs.Prelude.{◌≡◌, ℕ, ◌+◌, ◌==◌, nat_le, nat_lt, Bool, true, false, not, ◌&&◌, if◌then◌else◌, List, [], ◌∷◌, length, Option, Some, None, is_some, slice_get, Result, Ok, Err}
 use Rattle.std.specs.List.{list_all, list_any}
 use Rattle.std.specs.Option.{option_and_then, option_map_or}
 use Rattle.qc_base.specs.declared.ids.Qubit.{Qubit}
 use Rattle.qc_base.specs.declared.ids.Ion.{Ion}
 use Rattle.circuit_core.specs.declared.op.Op.{Op}
-use Rattle.circuit_core.specs.Circuit.{CircuitValue}
-use Rattle.circuit_core.specs.Op.{qubits_of, is_barrier}
+use Rattle.circuit_core.specs.Op.{qubits_of}
+use Rattle.circuit_core.specs.Order.{is_performed}
 use Rattle.trap_model.specs.Trap.{TrapValue, place_count, is_zone, is_able}
 use Rattle.trap_model.specs.Channels.{split_channel, move_channel, cross_channel, merge_channel}
 use Rattle.trap_model.specs.declared.channel.Channel.{Channel}
@@ -48,13 +49,11 @@ is_empty (ion ∷ ions) = false
 abbrev pub is_count_of : ℕ → List Ion → Bool
 is_count_of count ions = nat_le 1 count && nat_le count (length ions)
 
--- the number is of an operation that is no barrier
-abbrev pub is_performed : CircuitValue → ℕ → Bool
-is_performed circuit number = option_map_or (λ (op : Op). not (is_barrier op)) (slice_get circuit.ops number) false
-
 -- the zone has the ability that the operation of this number needs
 abbrev pub is_able_for : SettingValue → ℕ → ℕ → Bool
-is_able_for setting zone number = option_map_or (is_able setting.trap zone) (option_and_then need_of (slice_get setting.circuit.ops number)) false
+is_able_for setting zone number =
+    option_map_or (is_able setting.trap zone)
+    (option_and_then need_of (slice_get setting.circuit.ops number)) false
 
 -- the ion of the qubit is among these
 abbrev pub is_among : List (List Qubit) → List Ion → Qubit → Bool
@@ -62,9 +61,12 @@ is_among placement ions qubit = list_any (λ (ion : Ion). ion.0 == (ion_of place
 
 -- all ions of the operation are among these
 abbrev pub are_among : SettingValue → List Ion → ℕ → Bool
-are_among setting ions number = option_map_or (λ (op : Op). list_all (is_among setting.placement ions) (qubits_of op)) (slice_get setting.circuit.ops number) false
+are_among setting ions number =
+    option_map_or (λ (op : Op). list_all (is_among setting.placement ions) (qubits_of op))
+    (slice_get setting.circuit.ops number) false
 
--- the zone is there and its end is joined; some of its ions split off, no more than the slot's load, into an empty slot
+-- the zone is there and its end is joined; some of its ions split off, no more than the slot's load, into an empty
+-- slot
 abbrev pub split_guards : TrapValue → List (List Ion) → ℕ → ℕ → Option Channel → List Guard
 split_guards trap config zone count channel =
     guard (is_zone trap zone) NoPlace
@@ -83,7 +85,8 @@ move_guards trap config from to channel =
     ∷ guard (is_empty (target config channel)) Occupied
     ∷ []
 
--- the junction and the slots are there, and the slots are two of its arms; a chain goes into an empty one, no longer than that one's load
+-- the junction and the slots are there, and the slots are two of its arms; a chain goes into an empty one, no longer
+-- than that one's load
 abbrev pub cross_guards : TrapValue → List (List Ion) → ℕ → ℕ → ℕ → Option Channel → List Guard
 cross_guards trap config junction from to channel =
     guard (is_junction trap junction && (is_slot trap from && is_slot trap to)) NoPlace
@@ -99,7 +102,8 @@ merge_guards trap config zone channel =
     guard (is_zone trap zone) NoPlace
     ∷ guard (is_some channel) NoJoin
     ∷ guard (not (is_empty (source config channel))) Empty
-    ∷ guard (nat_le (length (source config channel) + length (target config channel)) (target_limit trap channel)) Full
+    ∷ guard (nat_le (length (source config channel) + length (target config channel))
+    (target_limit trap channel)) Full
     ∷ []
 
 -- the zone is there, and there are two neighbours at the index
@@ -109,7 +113,7 @@ swap_guards trap config zone index =
     ∷ guard (nat_lt (index + 1) (length (list_at config zone))) Index
     ∷ []
 
--- the zone is there and able to perform the operation, whose ions stand in it
+-- the zone is there and able to perform the operation, whose ions are in it
 abbrev pub op_guards : SettingValue → List (List Ion) → ℕ → ℕ → List Guard
 op_guards setting config zone op =
     guard (is_zone setting.trap zone) NoPlace
@@ -120,10 +124,14 @@ op_guards setting config zone op =
 
 -- the guards that speak of the trap and the configuration alone, which are those of all actions but operations
 abbrev pub transport_guards : TrapValue → List (List Ion) → Action → List Guard
-transport_guards trap config (actions.Split zone end count) = split_guards trap config zone.0 count (split_channel trap zone.0 end)
-transport_guards trap config (actions.Move from to) = move_guards trap config from.0 to.0 (move_channel trap from.0 to.0)
-transport_guards trap config (actions.Cross junction from to) = cross_guards trap config junction.0 from.0 to.0 (cross_channel trap junction.0 from.0 to.0)
-transport_guards trap config (actions.Merge zone end) = merge_guards trap config zone.0 (merge_channel trap zone.0 end)
+transport_guards trap config (actions.Split zone end count) =
+    split_guards trap config zone.0 count (split_channel trap zone.0 end)
+transport_guards trap config (actions.Move from to) =
+    move_guards trap config from.0 to.0 (move_channel trap from.0 to.0)
+transport_guards trap config (actions.Cross junction from to) =
+    cross_guards trap config junction.0 from.0 to.0 (cross_channel trap junction.0 from.0 to.0)
+transport_guards trap config (actions.Merge zone end) =
+    merge_guards trap config zone.0 (merge_channel trap zone.0 end)
 transport_guards trap config (actions.Swap zone index) = swap_guards trap config zone.0 index
 transport_guards trap config (actions.Op zone op) = []
 

@@ -42,11 +42,14 @@ AreApart trap a b = (spot : Spot) → Contains (footprint trap a) spot → Conta
 
 -- the places after the ions of an action went through that channel
 abbrev pub after_passing : List (List Ion) → Action → Channel → List (List Ion)
-after_passing config action channel = after_transfer config (transfer channel (passing action (list_at config channel.from.0)))
+after_passing config action channel =
+    after_transfer config (transfer channel (passing action (list_at config channel.from.0)))
 
--- the places after an action: a swap exchanges two neighbours, an operation moves nothing, and all others pass ions through their channel
+-- the places after an action: a swap exchanges two neighbours, an operation moves nothing, and all others pass ions
+-- through their channel
 abbrev pub after : TrapValue → List (List Ion) → Action → List (List Ion)
-after trap config (actions.Swap zone index) = slice_set config zone.0 (swap (list_at config zone.0) index (index + 1))
+after trap config (actions.Swap zone index) =
+    slice_set config zone.0 (swap (list_at config zone.0) index (index + 1))
 after trap config action = option_map_or (after_passing config action) (channel_for trap action) config
 
 -- the places after all actions of a step

@@ -19,24 +19,29 @@ ghost use Rattle.step_rules.specs.Play.{AreLegal, after_steps};
 
 /// The result of a legal step is the same in every order of its actions.
 pub fn steps_in_any_order()
-    ensures legal { (setting : SettingValue) (config : List (List Ion)) (step other : List Action) → IsLegal setting config step → IsPermutation step other
+    ensures legal { (setting : SettingValue) (config : List (List Ion)) (step other : List Action)
+        → IsLegal setting config step → IsPermutation step other
         → after_step setting.trap config other ≡ after_step setting.trap config step }
-    ensures apart { (trap : TrapValue) (config : List (List Ion)) (step other : List Action) → AllPairs (AreApart trap) step → IsPermutation step other
+    ensures apart { (trap : TrapValue) (config : List (List Ion)) (step other : List Action)
+        → AllPairs (AreApart trap) step → IsPermutation step other
         → after_step trap config other ≡ after_step trap config step }
 {}
 
 /// Of the configuration, the guards of an action see the places of its footprint alone.
 pub fn guards_see_the_footprint()
     ensures guards { (setting : SettingValue) (config other : List (List Ion)) (action : Action)
-        → Agree (footprint setting.trap action) config other → guards setting config action ≡ guards setting other action }
+        → Agree (footprint setting.trap action) config other
+        → guards setting config action ≡ guards setting other action }
     ensures transport { (trap : TrapValue) (config other : List (List Ion)) (action : Action)
-        → Agree (footprint trap action) config other → transport_guards trap config action ≡ transport_guards trap other action }
+        → Agree (footprint trap action) config other
+        → transport_guards trap config action ≡ transport_guards trap other action }
 {}
 
 /// An action changes the places of its footprint alone, and its channel leads between two of them.
 pub fn actions_stay_in_the_footprint()
     ensures elsewhere { (trap : TrapValue) (config : List (List Ion)) (action : Action) (p : ℕ)
-        → (Contains (footprint trap action) (place p) → ⊥) → list_at (after trap config action) p ≡ list_at config p }
+        → (Contains (footprint trap action) (place p) → ⊥)
+        → list_at (after trap config action) p ≡ list_at config p }
     ensures from { (trap : TrapValue) (action : Action) (channel : Channel)
         → channel_for trap action ≡ Some channel → Contains (footprint trap action) (place channel.from.0) }
     ensures to { (trap : TrapValue) (action : Action) (channel : Channel)
@@ -48,8 +53,10 @@ pub fn actions_stay_in_the_footprint()
 /// An action that passes its guards still passes them after actions that work on nothing it works on.
 pub fn passing_after_others()
     ensures one { (setting : SettingValue) (config : List (List Ion)) (other action : Action)
-        → AreApart setting.trap other action → Passes setting config action → Passes setting (after setting.trap config other) action }
-    ensures several { (setting : SettingValue) (config : List (List Ion)) (others : List Action) (action : Action)
+        → AreApart setting.trap other action → Passes setting config action
+        → Passes setting (after setting.trap config other) action }
+    ensures several { (setting : SettingValue) (config : List (List Ion)) (others : List Action)
+        (action : Action)
         → All (λ other. AreApart setting.trap other action) others → Passes setting config action
         → Passes setting (after_step setting.trap config others) action }
     ensures transport { (trap : TrapValue) (config : List (List Ion)) (others : List Action) (action : Action)
@@ -62,7 +69,8 @@ pub fn passing_after_others()
 /// From the placement on, all that is legal keeps every ion exactly once and every place's limit.
 pub fn ions_and_limits_are_kept()
     ensures by_action { (trap : TrapValue) (config : List (List Ion)) (action : Action)
-        → IsTrap trap → IsWithinLimits trap config → PassesTransport trap config action → IsKept trap config (after trap config action) }
+        → IsTrap trap → IsWithinLimits trap config → PassesTransport trap config action
+        → IsKept trap config (after trap config action) }
     ensures by_step { (setting : SettingValue) (config : List (List Ion)) (step : List Action)
         → IsTrap setting.trap → IsWithinLimits setting.trap config → IsLegal setting config step
         → IsKept setting.trap config (after_step setting.trap config step) }

@@ -20,7 +20,7 @@ found_here : {X : Type 0} (p : X → Bool) (before : List X) (x : X) (xs : List 
 found_here p before x xs true e = let at : length before + 0 ≡ length before = omega arith in slice_get_right before (x ∷ xs) 0 (length before) at
 found_here p before x xs false e = e
 
--- what stands at the first position is the first that passes
+-- what is at the first position is the first that passes
 pub found_at : {X : Type 0} (p : X → Bool) (before xs : List X) → option_and_then (λ k. slice_get (before ++ xs) k) (position_from p (length before) xs) ≡ find p xs
 found_at p before [] = refl
 found_at p before (x ∷ xs) =

@@ -96,7 +96,7 @@ known_at trap [] k d p h = absurd (omega arith)
 known_at trap (link ∷ rest) zero d p h = p.0
 known_at trap (link ∷ rest) (suc k) d p h = known_at trap rest k d p.1 (omega arith)
 
--- the parts of the join of a zone that stands there
+-- the parts of the join of a zone that is there
 pub dock_known : (trap : TrapValue) (ls : List Link) (k : ℕ) (d : Link) (zone : ℕ) (e : End) (segment : ℕ) (f : End) → ls ≡ links_of trap → k < length ls
     → get_or ls k d ≡ links.Dock zone e segment f → IsLink trap (links.Dock zone e segment f)
 dock_known trap ls k d zone e segment f same h is =
@@ -107,7 +107,7 @@ arm_segment : (trap : TrapValue) (junction segment : ℕ) (link : Link) → IsLi
 arm_segment trap junction segment (links.Dock zone e other f) p is = absurd (none-some segment is)
 arm_segment trap junction segment (links.Arm other e j) p is = let same = (cond_some (eqb junction j) other segment is).1 in rw same at p.0
 
--- the segment of the join of a junction that stands there
+-- the segment of the join of a junction that is there
 pub arm_known : (trap : TrapValue) (ls : List Link) (k : ℕ) (d : Link) (junction segment : ℕ) → ls ≡ links_of trap → k < length ls
     → segment_at junction (get_or ls k d) ≡ Some segment → segment < length trap.segments
 arm_known trap ls k d junction segment same h is =

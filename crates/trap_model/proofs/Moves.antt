@@ -13,7 +13,7 @@ use Rattle.trap_model.specs.Trap.{TrapValue, slot, slots_from, slot_count, slot_
 use Rattle.trap_model.specs.Joins.{firsts_from, first_slot, slots_of, links_of}
 use Rattle.trap_model.specs.Channels.{channel, move_channels, moves_from, channel_at, is_move, move_of, move_channel, same_segment}
 use Rattle.trap_model.proofs.Rows.{row_begins}
-use Rattle.trap_model.proofs.Slots.{slots_in, slot_place, slot_at_row, slot_at_behind, length-slots_from, IsSlotPlace}
+use Rattle.trap_model.proofs.Slots.{slots_in, slot_place, slot_at_row, slot_at_after_zones, length-slots_from, IsSlotPlace}
 use Rattle.trap_model.proofs.Finds.{channel_found, find_parts, find-append, no_moves, no_docks, no_crossings, or_none}
 
 -- the test passes one channel, in the pair of one slot
@@ -79,16 +79,16 @@ moves_last p c t h place (segment ∷ segments) (suc s) j there at last =
     let begins = row_begins (place + segment.slots) segments s inside in
     first_row p place segment segments None (pairs_miss p c t h place (segment.slots - 1) (inr (omega (arith, begins, at)))) ∙ moves_last p c t h (place + segment.slots) segments s j inside at last
 
--- no slot stands at a zone's place, and none past the last place
+-- no slot is at a zone's place, and none past the last place
 pub no_slot_zone : (trap : TrapValue) (t : ℕ) → t < length trap.zones → slot_at trap t ≡ None
 no_slot_zone trap t h = cond-true (ltb t (length trap.zones)) None (slice_get (slots_from 0 trap.segments) (t - length trap.zones)) (lt-ltb t (length trap.zones) h)
 
 pub no_slot_past : (trap : TrapValue) (t : ℕ) → place_count trap ≤ t → slot_at trap t ≡ None
 no_slot_past trap t h =
-    slot_at_behind trap t (omega arith) ∙ slice_get_past (slots_from 0 trap.segments) (t - length trap.zones) (omega (arith, length-slots_from 0 trap.segments))
+    slot_at_after_zones trap t (omega arith) ∙ slice_get_past (slots_from 0 trap.segments) (t - length trap.zones) (omega (arith, length-slots_from 0 trap.segments))
 
 pub slot_of_place : (trap : TrapValue) (t : ℕ) → length trap.zones ≤ t → (p : IsSlotPlace trap t) → slot_at trap t ≡ Some (slot p.segment p.index)
-slot_of_place trap t past p = slot_at_behind trap t past ∙ p.slot_is
+slot_of_place trap t past p = slot_at_after_zones trap t past ∙ p.slot_is
 
 -- the place after the last slot of a row is of another row
 other_row : (trap : TrapValue) (t : ℕ) (here : IsSlotPlace trap t) (next : IsSlotPlace trap (t + 1)) → slots_of trap here.segment ≤ here.index + 1 → here.segment ≡ next.segment → ⊥

@@ -16,11 +16,11 @@ pub map_range_more : {X : Type 0} (f : ℕ → X) (n : ℕ) → map f (range_wit
 map_range_more f n = map-range_with_len_more f 0 n n (omega arith)
 
 -- one more, after what was there before
-pub behind_map_more : {X : Type 0} (f : ℕ → X) (old now : List X) (n : ℕ) → now ≡ old ++ map f (range_with_len 0 n) → now ++ f n ∷ [] ≡ old ++ map f (range_with_len 0 (n + 1))
-behind_map_more f old now n e = rw (map_range_more f n, e) (append_assoc old (map f (range_with_len 0 n)) (f n ∷ []))
+pub after_map_more : {X : Type 0} (f : ℕ → X) (old now : List X) (n : ℕ) → now ≡ old ++ map f (range_with_len 0 n) → now ++ f n ∷ [] ≡ old ++ map f (range_with_len 0 (n + 1))
+after_map_more f old now n e = rw (map_range_more f n, e) (append_assoc old (map f (range_with_len 0 n)) (f n ∷ []))
 
-pub behind_pieces_more : {X : Type 0} (f : ℕ → List X) (old now : List X) (a n : ℕ) → now ≡ old ++ flat_map f (range_with_len a n) → now ++ f (a + n) ≡ old ++ flat_map f (range_with_len a (n + 1))
-behind_pieces_more f old now a n e = rw (flat_map_range_more f a n, e) (append_assoc old (flat_map f (range_with_len a n)) (f (a + n)))
+pub after_pieces_more : {X : Type 0} (f : ℕ → List X) (old now : List X) (a n : ℕ) → now ≡ old ++ flat_map f (range_with_len a n) → now ++ f (a + n) ≡ old ++ flat_map f (range_with_len a (n + 1))
+after_pieces_more f old now a n e = rw (flat_map_range_more f a n, e) (append_assoc old (flat_map f (range_with_len a n)) (f (a + n)))
 
 pub map_more : {X : Type 0} (f : ℕ → X) (now : List X) (n : ℕ) → now ≡ map f (range_with_len 0 n) → now ++ f n ∷ [] ≡ map f (range_with_len 0 (n + 1))
 map_more f now n e = rw (map_range_more f n, e) refl

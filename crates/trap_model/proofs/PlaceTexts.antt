@@ -70,7 +70,7 @@ pub dot_stands : (a b : List ℕ) → has_dot (a ++ 46 ∷ b) ≡ true
 dot_stands [] b = refl
 dot_stands (x ∷ a) b = or_right (eqb x 46) (has_dot (a ++ 46 ∷ b)) (dot_stands a b)
 
--- where nothing stands twice, a place is known by what stands there
+-- where nothing occurs twice, a place is known by what is there
 pub unique : {X : Type 0} (xs : List X) (i j : ℕ) (d : X) → AllPairs (λ a b. a ≢ b) xs → i < length xs → j < length xs → get_or xs i d ≡ get_or xs j d → i ≡ j
 unique xs i j d all p q e =
     elim (cases_order i j) [
@@ -332,7 +332,7 @@ slot_found trap text k s j part t h dot found read below number =
     let few : j < slots_of trap s = omega (arith, below, count) in
     let past : length trap.zones ≤ first_slot trap s + j = omega (arith, row.begins) in
     record {
-      behind = past;
+      after_zones = past;
       there = omega (arith, row.within, few);
       written = rw (slice_get_past trap.zones (first_slot trap s + j) past, slot_at_row trap s j inside few, is, segment_found trap (take k text) s part found read, number)
           (append_assoc (take k text) (46 ∷ []) (drop (k + 1) text) ∙ text_cut text k h dot);

@@ -1,4 +1,4 @@
--- What stands in a table that is made number by number.
+-- What is in a table that is made number by number.
 use Rattle.std.proofs.Common.{◌≡◌, ℕ, ◌+◌, ◌<◌, ◌≤◌, List, length, get_or, map, None, Some, Bool, refl, sym, ap, ◌∙◌, arith, find, [], ◌∷◌, inl, inr}
 use Rattle.std.specs.List.{range_with_len, position_from}
 use Rattle.std.proofs.lemmas.Bool.{cases_Bool, cond-true, cond-false, ne_eqb}

@@ -1,4 +1,4 @@
--- Which slot stands at which place.
+-- Which slot is at which place.
 use Rattle.std.proofs.Common.{◌≡◌, ℕ, ◌+◌, ◌-◌, ◌<◌, ◌≤◌, false, List, [], ◌∷◌, ◌++◌, length, get_or, map, None, Some, zero, suc, refl, sym, ap, ◌∙◌, arith, slice_get, slice_index, ltb, inl, inr, length-append}
 use Rattle.std.specs.List.{range_with_len}
 use Rattle.std.specs.Option.{option_map_or}
@@ -55,7 +55,7 @@ slot_in_row place number (segment ∷ segments) (suc s) j n h below e =
     let at : slice_index (firsts_from (place + segment.slots) segments) s + j ≡ (place + segment.slots) + rest = omega (arith, e, begins) in
     rw next (slice_get_right front (slots_from (number + 1) segments) rest n (omega (arith, e, begins, len)) ∙ slot_in_row (place + segment.slots) (number + 1) segments s j rest inside below at)
 
--- the slot that stands at the n-th place of rows that begin at a place
+-- the slot that is at the n-th place of rows that begin at a place
 pub record IsLocated (place number : ℕ) (segments : List SegmentPart) (n : ℕ) : Type 0 where
   pub segment : ℕ
   pub index : ℕ
@@ -129,8 +129,8 @@ pub record IsSlotRead (trap : TrapValue) (place : ℕ) (s : Slot) : Type 0 where
   pub at : first_slot trap s.segment + s.index ≡ place
   pub is : slot_at trap place ≡ Some s
 
-pub slot_at_behind : (trap : TrapValue) (place : ℕ) → length trap.zones ≤ place → slot_at trap place ≡ slice_get (slots_from 0 trap.segments) (place - length trap.zones)
-slot_at_behind trap place past =
+pub slot_at_after_zones : (trap : TrapValue) (place : ℕ) → length trap.zones ≤ place → slot_at trap place ≡ slice_get (slots_from 0 trap.segments) (place - length trap.zones)
+slot_at_after_zones trap place past =
     cond-false (ltb place (length trap.zones)) None (slice_get (slots_from 0 trap.segments) (place - length trap.zones)) (le-ltb place (length trap.zones) past)
 
 pub slot_read : (trap : TrapValue) (place : ℕ) (slots : List Slot) (s : Slot) → slots ≡ slots_from 0 trap.segments → length trap.zones ≤ place → place < place_count trap
@@ -142,7 +142,7 @@ slot_read trap place slots s all past h read =
       there = rw (ap (λ (x : Slot). x.segment) is) at p.there;
       below = rw (ap (λ (x : Slot). x.segment) is, ap (λ (x : Slot). x.index) is) at p.below;
       at = rw (ap (λ (x : Slot). x.segment) is, ap (λ (x : Slot). x.index) is) at p.at;
-      is = slot_at_behind trap place past ∙ p.slot_is ∙ ap (λ (x : Slot). Some x) is;
+      is = slot_at_after_zones trap place past ∙ p.slot_is ∙ ap (λ (x : Slot). Some x) is;
     }
 
 -- the limit of a slot is its segment's load

@@ -56,20 +56,23 @@ none_of fault (Some x) = Err (fault x)
 abbrev pub few : Counted → ℕ → ℕ → Result (Unit {0}) TrapFault
 few what most count = unless (nat_le count most) (TooMany what)
 
--- the first name that stands before
+-- the first name that occurred before
 abbrev pub first_double : List (List ℕ) → List (List ℕ) → Option (List ℕ)
 first_double before [] = None
-first_double before (name ∷ names) = if list_any (bytes_eq name) before then Some name else first_double (before ++ name ∷ []) names
+first_double before (name ∷ names) =
+    if list_any (bytes_eq name) before then Some name else first_double (before ++ name ∷ []) names
 
 -- each zone has room for 1 to 32 ions
 abbrev pub hold_ions : List ZonePart → Result (Unit {0}) TrapFault
-hold_ions zones = none_of (λ zone. Capacity zone.name) (find (λ zone. not (is_between 1 32 zone.capacity)) zones)
+hold_ions zones =
+    none_of (λ zone. Capacity zone.name) (find (λ zone. not (is_between 1 32 zone.capacity)) zones)
 
 -- each segment has 1 to 16 slots, and then a load of 1 to 16
 abbrev pub are_measured : List SegmentPart → Result (Unit {0}) TrapFault
 are_measured [] = Ok tt
 are_measured (segment ∷ segments) =
-    unless (is_between 1 16 segment.slots) (Length segment.name) >> unless (is_between 1 16 segment.load) (Load segment.name) >> are_measured segments
+    unless (is_between 1 16 segment.slots) (Length segment.name)
+    >> unless (is_between 1 16 segment.load) (Load segment.name) >> are_measured segments
 
 abbrev pub same_port : Port → Port → Bool
 same_port (ports.Zone zone e) (ports.Zone other f) = zone == other && same_end e f
@@ -95,7 +98,8 @@ join_of trap row before join = do
 -- the joins from a row on, after those before it
 unfoldable pub joins_from : TrapValue → ℕ → List Link → List JoinPart → Result (List Link) TrapFault
 joins_from trap row before [] = Ok before
-joins_from trap row before (join ∷ joins) = join_of trap row before join >>= (λ link. joins_from trap (row + 1) (before ++ link ∷ []) joins)
+joins_from trap row before (join ∷ joins) =
+    join_of trap row before join >>= (λ link. joins_from trap (row + 1) (before ++ link ∷ []) joins)
 
 -- the segments that have an end at a junction, in file order of the joins
 abbrev pub segments_at : ℕ → List Link → List ℕ
@@ -112,7 +116,8 @@ are_arms segments = is_between 2 4 (length segments) && all_differ segments
 -- the junctions from a number on
 abbrev pub are_armed : List Link → ℕ → List (List ℕ) → Result (Unit {0}) TrapFault
 are_armed links junction [] = Ok tt
-are_armed links junction (name ∷ names) = unless (are_arms (segments_at junction links)) (Arms name) >> are_armed links (junction + 1) names
+are_armed links junction (name ∷ names) =
+    unless (are_arms (segments_at junction links)) (Arms name) >> are_armed links (junction + 1) names
 
 -- the tests of the parts by themselves
 unfoldable pub parts_pass : TrapValue → Result (Unit {0}) TrapFault
@@ -126,7 +131,8 @@ parts_pass trap = do
   are_measured trap.segments
   few Slots 256 (slot_count trap.segments)
 
--- The trap of the parts, or the first test that they fail: of the parts, of the joins row by row, of the junctions.
+-- The trap of the parts, or the first test that they fail: of the parts, of the joins row by row, of the
+-- junctions.
 unfoldable pub build_of : TrapValue → Result TrapValue TrapFault
 build_of trap = do
   parts_pass trap

@@ -31,7 +31,14 @@ moves _ = false
 -- the channel of that kind from one end of a place to another
 abbrev pub channel : Kind → ℕ → End → ℕ → End → Option JunctionId → Channel
 channel kind from from_end to to_end junction =
-    record { kind = kind; from = record { 0 = from }; from_end = from_end; to = record { 0 = to }; to_end = to_end; junction = junction }
+    record {
+      kind = kind;
+      from = record { 0 = from };
+      from_end = from_end;
+      to = record { 0 = to };
+      to_end = to_end;
+      junction = junction;
+    }
 
 abbrev pub split : ℕ → End → SlotEnd → Channel
 split zone end slot = channel Split zone end slot.slot slot.end None
@@ -44,7 +51,8 @@ cross junction from to = channel Cross from.slot from.end to.slot to.end (Some (
 
 -- for a join of a zone with a segment: split from the zone, then merge into it
 abbrev pub dock_channels : TrapValue → Link → List Channel
-dock_channels trap (links.Dock zone e segment f) = split zone e (slot_end trap segment f) ∷ merge zone e (slot_end trap segment f) ∷ []
+dock_channels trap (links.Dock zone e segment f) =
+    split zone e (slot_end trap segment f) ∷ merge zone e (slot_end trap segment f) ∷ []
 dock_channels trap (links.Arm segment e junction) = []
 
 -- from a slot to the next, then back
@@ -54,7 +62,9 @@ move_channels place = channel Move place B (place + 1) A None ∷ channel Move (
 -- for each segment, whose first slot is at that place, and each of its slots but the last
 abbrev pub moves_from : ℕ → List SegmentPart → List Channel
 moves_from place [] = []
-moves_from place (segment ∷ segments) = flat_map move_channels (range_with_len place (segment.slots - 1)) ++ moves_from (place + segment.slots) segments
+moves_from place (segment ∷ segments) =
+    flat_map move_channels (range_with_len place (segment.slots - 1))
+    ++ moves_from (place + segment.slots) segments
 
 -- from one arm to another
 abbrev pub cross_channels : ℕ → SlotEnd → SlotEnd → List Channel
@@ -62,12 +72,14 @@ cross_channels junction from to = if from.slot == to.slot then [] else cross jun
 
 -- for each ordered pair of different arms of a junction
 abbrev pub crossings_of : TrapValue → ℕ → List Channel
-crossings_of trap junction = flat_map (λ from. flat_map (cross_channels junction from) (arms_of trap junction)) (arms_of trap junction)
+crossings_of trap junction =
+    flat_map (λ from. flat_map (cross_channels junction from) (arms_of trap junction)) (arms_of trap junction)
 
 -- the channels in order: of the joins with zones, of the segments, of the junctions
 abbrev pub channels_of : TrapValue → List Channel
 channels_of trap =
-    flat_map (dock_channels trap) (links_of trap) ++ moves_from (length trap.zones) trap.segments ++ flat_map (crossings_of trap) (range_with_len 0 (length trap.junctions))
+    flat_map (dock_channels trap) (links_of trap) ++ moves_from (length trap.zones) trap.segments
+    ++ flat_map (crossings_of trap) (range_with_len 0 (length trap.junctions))
 
 -- both places of each channel are there
 abbrev pub AreWithin : TrapValue → List Channel → Type 0
@@ -127,7 +139,8 @@ same_segment None other = false
 abbrev pub move_channel : TrapValue → ℕ → ℕ → Option Channel
 move_channel trap from to =
     if same_segment (slot_at trap from) (slot_at trap to)
-    then (if to == from + 1 then Some (channel Move from B to A None) else if from == to + 1 then Some (channel Move from A to B None) else None)
+    then (if to == from + 1 then Some (channel Move from B to A None)
+    else if from == to + 1 then Some (channel Move from A to B None) else None)
     else None
 
 -- the arm of a junction at that slot
@@ -137,7 +150,9 @@ arm_of trap junction slot = find (λ arm. slot == arm.slot) (arms_of trap juncti
 -- the crossing from slot to slot, where they are two different arms of the junction
 abbrev pub cross_channel : TrapValue → ℕ → ℕ → ℕ → Option Channel
 cross_channel trap junction from to =
-    if from == to then None else option_and_then (λ out. option_map (cross junction out) (arm_of trap junction to)) (arm_of trap junction from)
+    if from == to then None
+    else option_and_then (λ out. option_map (cross junction out) (arm_of trap junction to))
+    (arm_of trap junction from)
 
 -- the number that is looked up for a channel of this kind and junction, by its ends
 abbrev pub number_by : TrapValue → Kind → Option JunctionId → Channel → Option ℕ

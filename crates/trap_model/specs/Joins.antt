@@ -30,7 +30,8 @@ segment_named trap name = position_from (λ segment. bytes_eq segment.name name)
 -- with an end, an end of the zone or segment of that name; without one, the junction
 abbrev pub port_named : TrapValue → List ℕ → Option End → Option Port
 port_named trap name (Some end) =
-    option_or (option_map (λ zone. ports.Zone zone end) (zone_named trap name)) (option_map (λ segment. ports.Segment segment end) (segment_named trap name))
+    option_or (option_map (λ zone. ports.Zone zone end) (zone_named trap name))
+    (option_map (λ segment. ports.Segment segment end) (segment_named trap name))
 port_named trap name None = option_map (λ junction. ports.Junction junction) (junction_named trap name)
 
 -- a zone's end with a segment's end, or a segment's end with a junction
@@ -48,7 +49,9 @@ link_of (ports.Junction junction) (ports.Junction other) = None
 -- what a join joins, where its names are known and of the right sorts
 abbrev pub link_at : TrapValue → JoinPart → Option Link
 link_at trap join =
-    option_and_then (λ first. option_and_then (link_of first) (port_named trap join.second.name join.second.end)) (port_named trap join.first.name join.first.end)
+    option_and_then
+    (λ first. option_and_then (link_of first) (port_named trap join.second.name join.second.end))
+    (port_named trap join.first.name join.first.end)
 
 -- the joins in file order
 abbrev pub links_of : TrapValue → List Link
@@ -78,7 +81,8 @@ slot_end trap segment B = record { slot = first_slot trap segment + slots_of tra
 
 -- the slot's end that a zone's end is joined with, where this join does it
 abbrev pub docked : TrapValue → ℕ → End → Link → Option SlotEnd
-docked trap zone end (links.Dock other e segment f) = if zone == other && same_end end e then Some (slot_end trap segment f) else None
+docked trap zone end (links.Dock other e segment f) =
+    if zone == other && same_end end e then Some (slot_end trap segment f) else None
 docked trap zone end (links.Arm segment e junction) = None
 
 -- the first value among the members that have one
@@ -100,7 +104,8 @@ segment_end (links.Dock zone e segment f) = f
 segment_end (links.Arm segment e junction) = e
 
 abbrev pub arm_at : TrapValue → ℕ → Link → Option SlotEnd
-arm_at trap junction link = option_map (λ segment. slot_end trap segment (segment_end link)) (segment_at junction link)
+arm_at trap junction link =
+    option_map (λ segment. slot_end trap segment (segment_end link)) (segment_at junction link)
 
 -- the arms of a junction as the slots' ends that it joins, in file order
 abbrev pub arms_of : TrapValue → ℕ → List SlotEnd

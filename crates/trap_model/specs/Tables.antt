@@ -15,13 +15,21 @@ use Rattle.trap_model.specs.Channels.{channels_of, is_split, is_merge, is_move, 
 use Rattle.trap_model.specs.Build.{IsTrap}
 
 abbrev pub door_of : List Channel → ℕ → End → Door
-door_of channels zone end = record { split = position_from (is_split zone end) 0 channels; merge = position_from (is_merge zone end) 0 channels }
+door_of channels zone end =
+    record {
+      split = position_from (is_split zone end) 0 channels;
+      merge = position_from (is_merge zone end) 0 channels;
+    }
 
 abbrev pub doors_of : List Channel → ℕ → Doors
 doors_of channels zone = record { a = door_of channels zone A; b = door_of channels zone B }
 
 abbrev pub steps_of : List Channel → ℕ → Steps
-steps_of channels place = record { ahead = position_from (is_move place (place + 1)) 0 channels; back = position_from (is_move (place + 1) place) 0 channels }
+steps_of channels place =
+    record {
+      ahead = position_from (is_move place (place + 1)) 0 channels;
+      back = position_from (is_move (place + 1) place) 0 channels;
+    }
 
 -- outside of it no channel is a crossing of the junction
 pub record IsPassage (channels : List Channel) (junction : ℕ) (passage : Passage) : Type 0 where
@@ -33,10 +41,12 @@ pub record IsPassage (channels : List Channel) (junction : ℕ) (passage : Passa
 -- one for each junction
 pub record ArePassages (channels : List Channel) (junctions : ℕ) (passages : List Passage) : Type 0 where
   pub count : length passages ≡ junctions
-  pub each : (junction : ℕ) (d : Passage) → junction < junctions → IsPassage channels junction (slice_index_or passages junction d)
+  pub each : (junction : ℕ) (d : Passage) → junction < junctions
+      → IsPassage channels junction (slice_index_or passages junction d)
 
 -- the tables are those of the trap
-pub record AreTables (trap : TrapValue) (slots : List Slot) (firsts : List ℕ) (channels : List Channel) (doors : List Doors) (steps : List Steps) (passages : List Passage) : Type 0 where
+pub record AreTables (trap : TrapValue) (slots : List Slot) (firsts : List ℕ) (channels : List Channel)
+    (doors : List Doors) (steps : List Steps) (passages : List Passage) : Type 0 where
   pub sound : IsTrap trap
   pub all_slots : slots ≡ slots_from 0 trap.segments
   pub of_segments : firsts ≡ firsts_from (length trap.zones) trap.segments

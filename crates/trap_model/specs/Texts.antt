@@ -3,16 +3,17 @@ use Rattle.std.specs.Prelude.{◌≡◌, ◌≢◌, ℕ, ◌<◌, ◌≤◌, ◌
 use Rattle.std.specs.List.{list_any}
 use Rattle.trap_model.specs.Trap.{TrapValue, place_count, place_text}
 
--- a dot stands in the text
+-- a dot is in the text
 abbrev pub has_dot : List ℕ → Bool
 has_dot text = list_any (λ byte. byte == 46) text
 
 -- the place is a slot, and is written so
 pub record IsSlotText (trap : TrapValue) (place : ℕ) (text : List ℕ) : Type 0 where
-  pub behind : length trap.zones ≤ place
+  pub after_zones : length trap.zones ≤ place
   pub there : place < place_count trap
   pub written : place_text trap place ≡ text
 
 -- no slot is written so
 abbrev pub IsNoSlotText : TrapValue → List ℕ → Type 0
-IsNoSlotText trap text = (place : ℕ) → length trap.zones ≤ place → place < place_count trap → place_text trap place ≢ text
+IsNoSlotText trap text =
+    (place : ℕ) → length trap.zones ≤ place → place < place_count trap → place_text trap place ≢ text

@@ -1,4 +1,4 @@
-//! The ways by which ions pass from place to place.
+//! The channels through which ions pass from place to place.
 
 ghost use Rattle.std.specs.Prelude.{◌≡◌};
 ghost use Rattle.trap_model.specs.Joins.{same_end};
@@ -15,7 +15,7 @@ pub enum Kind {
     Merge,
 }
 
-/// A directed way from an end of one place to an end of another. A crossing has its junction.
+/// A directed path from an end of one place to an end of another. A crossing has its junction.
 #[derive(Clone, Copy, Debug, PartialEq, Eq)]
 pub struct Channel {
     pub kind: Kind,

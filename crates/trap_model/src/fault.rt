@@ -17,7 +17,7 @@ pub enum Counted {
 pub enum TrapFault {
     NoZone,
     TooMany { what: Counted },
-    /// The first name that stands before.
+    /// The first name that occurred before.
     Double { name: Name },
     Capacity { zone: Name },
     Length { segment: Name },

@@ -46,10 +46,11 @@ impl TrapParts {
         judge_count(Counted::Slots, 256, self.slot_count())
     }
 
-    // Each name stands once.
+    // Each name occurs once.
     fn judge_names(&self, alloc: Global) -> Result<(), TrapFault>
         requires { length (names_of (lists self.now)) ≤ 320 }
-        ensures { Gives (λ x. x) result (none_of TrapFault.Double (first_double [] (names_of (lists self.now)))) }
+        ensures { Gives (λ x. x) result
+            (none_of TrapFault.Double (first_double [] (names_of (lists self.now)))) }
     {
         match self.first_double() {
             Some(name) => Err(TrapFault::Double {

@@ -28,7 +28,8 @@ impl TrapParts {
     // The place of the first slot of each segment.
     pub(crate) fn firsts(&self, alloc: Global) -> Result<Vec<u32>, NoMemory>
         requires { IsTrap (lists self.now) }
-        ensures { IfOk result (λ firsts. firsts.items ≡ firsts_from (length self.now.zones.items) self.now.segments.items) }
+        ensures { IfOk result
+            (λ firsts. firsts.items ≡ firsts_from (length self.now.zones.items) self.now.segments.items) }
     {
         let mut firsts = Vec::new(alloc);
         let mut place = self.zones.len() as u32;
@@ -86,7 +87,8 @@ impl TrapParts {
         requires trap { IsTrap (lists self.now) }
         requires firsts { firsts.now ≡ firsts_from (length self.now.zones.items) self.now.segments.items }
         requires links { links.now ≡ links_of (lists self.now) }
-        ensures { OnOk result (channels.new.items ≡ channels.old.items ++ flat_map (dock_channels (lists self.now)) links.now) }
+        ensures { OnOk result
+            (channels.new.items ≡ channels.old.items ++ flat_map (dock_channels (lists self.now)) links.now) }
     {
         for link in links {
             if let Link::Dock {
@@ -106,7 +108,9 @@ impl TrapParts {
     // For each segment and each slot but the last: from it to the next, then back.
     fn push_moves(&self, channels: &mut Vec<Channel>) -> Result<(), NoMemory>
         requires { IsTrap (lists self.now) }
-        ensures { OnOk result (channels.new.items ≡ channels.old.items ++ moves_from (length self.now.zones.items) self.now.segments.items) }
+        ensures { OnOk result
+            (channels.new.items
+            ≡ channels.old.items ++ moves_from (length self.now.zones.items) self.now.segments.items) }
     {
         let mut place = self.zones.len() as u32;
         for segment in &self.segments {
@@ -128,7 +132,10 @@ impl TrapParts {
         requires trap { IsTrap (lists self.now) }
         requires firsts { firsts.now ≡ firsts_from (length self.now.zones.items) self.now.segments.items }
         requires links { links.now ≡ links_of (lists self.now) }
-        ensures { OnOk result (channels.new.items ≡ channels.old.items ++ flat_map (crossings_of (lists self.now)) (range_with_len 0 (length self.now.junctions.items))) }
+        ensures { OnOk result
+            (channels.new.items
+            ≡ channels.old.items
+            ++ flat_map (crossings_of (lists self.now)) (range_with_len 0 (length self.now.junctions.items))) }
     {
         for junction in 0..self.junctions.len() {
             let arms = self.arms(alloc, firsts, links, junction)?;
@@ -174,7 +181,8 @@ fn push_dock(
     slot: SlotEnd,
     channels: &mut Vec<Channel>,
 ) -> Result<(), NoMemory>
-    ensures { OnOk result (channels.new.items ≡ channels.old.items ++ split zone end slot ∷ merge zone end slot ∷ []) }
+    ensures { OnOk result
+        (channels.new.items ≡ channels.old.items ++ split zone end slot ∷ merge zone end slot ∷ []) }
 {
     channels.push(Channel {
         kind: Kind::Split,
@@ -213,7 +221,8 @@ fn a_move(from: u32, from_end: End, to: u32, to_end: End) -> Channel
 #[tactic(auto, using(crate::proofs::Pieces::flat_map_range_more))]
 fn push_segment(place: u32, pairs: u32, channels: &mut Vec<Channel>) -> Result<(), NoMemory>
     requires { place + pairs < 2 ^ 32 }
-    ensures { OnOk result (channels.new.items ≡ channels.old.items ++ flat_map move_channels (range_with_len place pairs)) }
+    ensures { OnOk result
+        (channels.new.items ≡ channels.old.items ++ flat_map move_channels (range_with_len place pairs)) }
 {
     for k in 0..pairs {
         let slot = place + k;
@@ -229,7 +238,9 @@ fn push_junction(
     arms: &[SlotEnd],
     channels: &mut Vec<Channel>,
 ) -> Result<(), NoMemory>
-    ensures { OnOk result (channels.new.items ≡ channels.old.items ++ flat_map (λ from. flat_map (cross_channels junction from) arms.now) arms.now) }
+    ensures { OnOk result
+        (channels.new.items
+        ≡ channels.old.items ++ flat_map (λ from. flat_map (cross_channels junction from) arms.now) arms.now) }
 {
     for from in arms {
         push_arm(junction, *from, arms, channels)?;
@@ -244,7 +255,8 @@ fn push_arm(
     arms: &[SlotEnd],
     channels: &mut Vec<Channel>,
 ) -> Result<(), NoMemory>
-    ensures { OnOk result (channels.new.items ≡ channels.old.items ++ flat_map (cross_channels junction from) arms.now) }
+    ensures { OnOk result
+        (channels.new.items ≡ channels.old.items ++ flat_map (cross_channels junction from) arms.now) }
 {
     for to in arms {
         if from.slot != to.slot {

@@ -35,7 +35,8 @@ fn begins_with_letter(bytes: &[u8]) -> bool
     }
 }
 
-/// Whether the bytes have the form of a name: 1 to 16 letters, digits and `_`, and a letter first. It takes no memory.
+/// Whether the bytes have the form of a name: 1 to 16 letters, digits and `_`, and a letter first. It takes no
+/// memory.
 pub fn is_name(bytes: &[u8]) -> bool
     ensures { result ≡ is_name_of bytes.now }
 {
@@ -124,7 +125,7 @@ impl TrapParts {
     }
 
     // Whether the name is among the first so many.
-    fn stands_among(&self, count: usize, name: &Name) -> bool
+    fn is_among(&self, count: usize, name: &Name) -> bool
         requires { count ≤ length (names_of (lists self.now)) }
         ensures { result ≡ list_any (bytes_eq name.now) (take count (names_of (lists self.now))) }
     {
@@ -136,14 +137,14 @@ impl TrapParts {
         false
     }
 
-    // The first name that stands before. There are a few hundred names at most.
+    // The first name that occurred before. There are a few hundred names at most.
     pub(crate) fn first_double(&self) -> Option<&Name>
         requires { length (names_of (lists self.now)) ≤ 320 }
         ensures { option_map (λ name. name.now) result ≡ first_double [] (names_of (lists self.now)) }
     {
         for k in 0..self.name_count() {
             let name = self.name_at(k);
-            if self.stands_among(k, name) {
+            if self.is_among(k, name) {
                 return Some(name);
             }
         }

@@ -12,7 +12,8 @@ use qc_base::{JunctionId, NoMemory, PlaceId};
 
 // The slot of a segment whose number is written so. A segment has few slots.
 fn slot_written(text: &[u8], slots: u32) -> Option<u32>
-    ensures { MatchOption result ((k : ℕ) → k < slots → decimal k ≢ text.now) (λ k. (k < slots) × (decimal k ≡ text.now)) }
+    ensures { MatchOption result ((k : ℕ) → k < slots → decimal k ≢ text.now)
+        (λ k. (k < slots) × (decimal k ≡ text.now)) }
 {
     for k in 0..slots {
         let mut buffer = Buffer::new();
@@ -23,9 +24,10 @@ fn slot_written(text: &[u8], slots: u32) -> Option<u32>
     None
 }
 
-// Where the first dot stands.
+// Where the first dot is.
 fn dot_in(text: &[u8]) -> Option<usize>
-    ensures { MatchOption result (has_dot text.now ≡ false) (λ k. (k < length text.now) × (slice_index text.now k ≡ 46) × (has_dot (take k text.now) ≡ false)) }
+    ensures { MatchOption result (has_dot text.now ≡ false)
+        (λ k. (k < length text.now) × (slice_index text.now k ≡ 46) × (has_dot (take k text.now) ≡ false)) }
 {
     for (k, byte) in text.iter().enumerate() {
         if *byte == b'.' {
@@ -48,7 +50,8 @@ impl Trap {
 
     // The slot that is written so.
     fn slot_named(&self, text: &[u8]) -> Option<PlaceId>
-        ensures { MatchOption result (IsNoSlotText self.now text.now) (λ place. IsSlotText self.now place.0 text.now) }
+        ensures { MatchOption result (IsNoSlotText self.now text.now)
+            (λ place. IsSlotText self.now place.0 text.now) }
     {
         let Some(dot) = dot_in(text) else {
             return None;

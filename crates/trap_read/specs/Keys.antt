@@ -1,4 +1,4 @@
--- The tables of a trap file, their keys, and what may stand under a key.
+-- The tables of a trap file, their keys, and what may be under a key.
 use Rattle.std.specs.Prelude.{ℕ, ◌-◌, nat_le, pos, negsuc, codes, Bool, true, false, not, ◌&&◌, ◌||◌, List, [], ◌∷◌, length, take, drop, find, Option, Some, None, Result, Ok, Err, if◌then◌else◌}
 use Rattle.std.specs.Option.{option_map, option_and_then, ok_or}
 use Rattle.std.specs.List.{list_any}
@@ -37,7 +37,7 @@ under row key test = test (key_of row key) (get_member key row.members)
 
 -- ---- unknown keys
 
--- the keys of a table, which stand in the order of their bytes
+-- the keys of a table, which are in the order of their bytes
 abbrev pub keys_of : Members → List (List ℕ)
 keys_of no_members = []
 keys_of (member key value members) = key ∷ keys_of members
@@ -105,19 +105,19 @@ texts_in _ = []
 
 -- ---- abilities
 
-abbrev pub stands : List ℕ → List (List ℕ) → Bool
-stands word words = list_any (bytes_eq word) words
+abbrev pub is_listed : List ℕ → List (List ℕ) → Bool
+is_listed word words = list_any (bytes_eq word) words
 
 abbrev pub is_ability : List ℕ → Bool
 is_ability word = bytes_eq word (codes "one") || bytes_eq word (codes "two") || bytes_eq word (codes "read")
 
--- each is an ability, and none stands twice
+-- each is an ability, and none occurs twice
 abbrev pub are_abilities : List (List ℕ) → Bool
 are_abilities [] = true
-are_abilities (word ∷ words) = (is_ability word && not (stands word words)) && are_abilities words
+are_abilities (word ∷ words) = (is_ability word && not (is_listed word words)) && are_abilities words
 
 abbrev pub abilities : List (List ℕ) → Abilities
-abilities words = record { one = stands (codes "one") words; two = stands (codes "two") words; read = stands (codes "read") words }
+abilities words = record { one = is_listed (codes "one") words; two = is_listed (codes "two") words; read = is_listed (codes "read") words }
 
 -- abilities, or nothing, which is none of them
 abbrev pub can_at : KeyAt → Option Data → Result Abilities TrapText
@@ -127,7 +127,7 @@ can_at key (Some value) =
 
 -- ---- ends
 
--- what stands before the suffix, where the text ends with it
+-- what is before the suffix, where the text ends with it
 abbrev pub before : List ℕ → List ℕ → Option (List ℕ)
 before suffix text =
     let front = length text - length suffix in

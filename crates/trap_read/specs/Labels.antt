@@ -22,7 +22,7 @@ place_key key = record { section = Place; row = 0; key = key }
 abbrev pub is_zone : List ZonePart → List ℕ → Bool
 is_zone zones name = list_any (λ zone. bytes_eq zone.name name) zones
 
--- each key is a known name, and an array of strings stands under it
+-- each key is a known name, and an array of strings is under it
 abbrev pub keys_pass : (List ℕ → Bool) → Members → Result (Unit {0}) TrapText
 keys_pass is_known no_members = Ok tt
 keys_pass is_known (member key value members) =
@@ -46,7 +46,7 @@ given_of zones place = option_map (labels_of zones) place
 
 -- ---- for private functions
 
--- the name stands in the set
+-- the name is in the set
 unfoldable pub has_name : BTreeSet (Bor (List ℕ)) → List ℕ → Bool
 has_name names name = contains_by (λ known. slice_cmp nat_cmp name known.now) names
 

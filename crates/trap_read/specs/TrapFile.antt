@@ -26,7 +26,7 @@ FileValue = TrapValue × Option (List (List (List ℕ)))
 abbrev pub table_of : List ℕ → Option Members
 table_of bytes = if is_utf8 bytes then parse_document bytes else None
 
--- what stands under the top keys
+-- what is under the top keys
 pub record TopValues : Type 0 where
   pub zones : Items
   pub segments : Items

@@ -4,7 +4,7 @@ ghost use Rattle.std.specs.Prelude.{◌≡◌, Ok, Err};
 ghost use Rattle.std.specs.List.{list_any};
 ghost use Rattle.std.specs.Str.{bytes_eq};
 ghost use Rattle.trap_read.specs.Answers.{Gives, Fails};
-ghost use Rattle.trap_read.specs.Keys.{row_view, under, can_at, stands, is_ability, are_abilities, abilities};
+ghost use Rattle.trap_read.specs.Keys.{row_view, under, can_at, is_listed, is_ability, are_abilities, abilities};
 
 use crate::fault::TrapText;
 use crate::row::Row;
@@ -20,9 +20,9 @@ pub(crate) struct Abilities {
     pub(crate) read: bool,
 }
 
-// Whether the word stands among the words.
-fn stands(word: &[u8], words: &[Name]) -> bool
-    ensures { result ≡ stands word.now words.now }
+// Whether the word is among the words.
+fn is_listed(word: &[u8], words: &[Name]) -> bool
+    ensures { result ≡ is_listed word.now words.now }
 {
     for other in words {
         if word == other.bytes() {
@@ -38,12 +38,12 @@ fn is_ability(word: &[u8]) -> bool
     word == b"one".as_slice() || word == b"two".as_slice() || word == b"read".as_slice()
 }
 
-// Whether each is an ability, and none stands twice. What follows a word is looked through at most four times.
+// Whether each is an ability, and none occurs twice. What follows a word is looked through at most four times.
 fn are_abilities(words: &[Name]) -> bool
     ensures { result ≡ are_abilities words.now }
 {
     for (k, word) in words.iter().enumerate() {
-        if !is_ability(word.bytes()) || stands(word.bytes(), &words[k + 1..]) {
+        if !is_ability(word.bytes()) || is_listed(word.bytes(), &words[k + 1..]) {
             return false;
         }
     }
@@ -55,9 +55,9 @@ impl Abilities {
         ensures { result ≡ abilities words.now }
     {
         Abilities {
-            one: stands(b"one", words),
-            two: stands(b"two", words),
-            read: stands(b"read", words),
+            one: is_listed(b"one", words),
+            two: is_listed(b"two", words),
+            read: is_listed(b"read", words),
         }
     }
 }

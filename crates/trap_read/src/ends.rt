@@ -12,7 +12,7 @@ use qc_base::{End, Name, NoMemory};
 use std::alloc::Global;
 use trap_model::{EndName, JoinPart, is_name};
 
-// What stands before the suffix, where the text ends with it.
+// What is before the suffix, where the text ends with it.
 fn before<'a>(suffix: &[u8], text: &'a [u8]) -> Option<&'a [u8]>
     ensures { option_map (λ x. x.now) result ≡ before suffix.now text.now }
 {

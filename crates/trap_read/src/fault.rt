@@ -19,7 +19,7 @@ pub enum Section {
     Place,
 }
 
-/// Where a key stands or is missing. Rows count from 1; at the top and in the table `place` the row is 0.
+/// Where a key is or is missing. Rows count from 1; at the top and in the table `place` the row is 0.
 #[derive(Debug, Drop, PartialEq, Eq)]
 pub struct KeyAt {
     pub section: Section,

@@ -17,7 +17,7 @@ use std::alloc::Global;
 use toml::{Table, Value};
 use trap_model::{GivenLabels, Trap, TrapFault, TrapParts};
 
-/// What stands under the top keys.
+/// What is under the top keys.
 #[derive(Clone, Copy)]
 pub(crate) struct Tops<'a> {
     pub(crate) zones: &'a [Value],

@@ -35,7 +35,7 @@ fn names_of(alloc: Global, zones: &[ZonePart]) -> Result<BTreeSet<&[u8]>, NoMemo
     Ok(names)
 }
 
-// Whether the name stands in the set.
+// Whether the name is in the set.
 #[tactic(auto, unfolding(crate::specs::Labels::has_name))]
 fn has_name(names: &BTreeSet<&[u8]>, name: &[u8]) -> bool
     ensures { result ≡ has_name names.now name.now }
@@ -43,7 +43,7 @@ fn has_name(names: &BTreeSet<&[u8]>, name: &[u8]) -> bool
     names.contains(name)
 }
 
-// Each key is one of the names, and an array of strings stands under it.
+// Each key is one of the names, and an array of strings is under it.
 fn judge_keys(alloc: Global, names: &BTreeSet<&[u8]>, table: &Table) -> Result<(), TrapText>
     ensures { Gives (λ x. x) result (keys_pass (has_name names.now) (table_view table.now)) }
 {

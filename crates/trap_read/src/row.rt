@@ -1,4 +1,4 @@
-//! A table of a trap file, and what stands under its keys.
+//! A table of a trap file, and what is under its keys.
 
 ghost use Rattle.std.specs.Prelude.{◌≡◌, not, find, Ok, Err, IfOk};
 ghost use Rattle.std.specs.Option.{option_map, ok_or};
@@ -41,7 +41,7 @@ impl<'a> Row<'a> {
         self.table.get(key)
     }
 
-    /// The key with where it stands.
+    /// The key with where it is.
     pub(crate) fn key(self, alloc: Global, key: &str) -> Result<KeyAt, NoMemory>
         ensures { IfOk result (λ k. k ≡ key_of (row_view self.entry) key.now) }
     {

@@ -16,7 +16,7 @@ const INLINE: &[u8] =
     b"zone = [{ name = 'A', \"capacity\" = 3, can = [\"two\"] }, { name = \"B\", capacity = 0x4 }]\n\
     place.B = [\"q[1]\", \"q[0]\"]\n";
 
-// A key, and where it stands.
+// A key, and where it is.
 fn key(alloc: Global, section: Section, row: u32, key: &[u8]) -> Result<KeyAt, NoMemory> {
     let key = Name::from_bytes(alloc, key)?;
     Ok(KeyAt { section, row, key })

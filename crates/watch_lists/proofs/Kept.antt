@@ -122,7 +122,7 @@ module _ (H S : List (Option ℕ)) (k : Kept H S) (now : Chained) (v : seen H S 
   pub before_seen : (b : ℕ) → Follows (Some b) l (get_or now.lists at []) → b < length S
   before_seen b there = before_below H S k at l b (as_kept (Some b) there)
 
--- ---- no link stands twice
+-- ---- no link occurs twice
 without_none : (l : ℕ) (xs : List ℕ) → IsIn l (without l xs) → ⊥
 without_none l [] a = absurd a
 without_none l (x ∷ xs) a = elim (eqb_tells x l) [
@@ -154,7 +154,7 @@ module _ (H S : List (Option ℕ)) (k : Kept H S) where
   pub once_seen : (now : Chained) → seen H S ≡ now → StandOnce now
   once_seen now v = subst StandOnce v once_kept
 
--- ---- what is known of lists of which no link stands twice
+-- ---- what is known of lists of which no link occurs twice
 module _ (now : Chained) (o : StandOnce now) where
   pub less : (at l : ℕ) (us vs : List ℕ) → get_or now.lists at [] ≡ us ++ l ∷ vs → without l (get_or now.lists at []) ≡ us ++ vs
   less at l us vs e = ap (without l) e ∙ without_middle l us vs

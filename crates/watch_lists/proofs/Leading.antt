@@ -127,7 +127,7 @@ leads_small S None xs n c le = tt
 leads_small S (Some l) [] n c le = absurd (subst is_none (sym c) tt)
 leads_small S (Some l) (x ∷ xs) n c le = let same : l ≡ x = some_is l x c.0 in omega (arith, c.1, le)
 
--- ---- how many links stand in the lists
+-- ---- how many links are in the lists
 pub count_at : (L : List (List ℕ)) (at : ℕ) → length (get_or L at []) ≤ count_in L
 count_at [] at = omega arith
 count_at (xs ∷ L) zero = omega arith

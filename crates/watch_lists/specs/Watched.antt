@@ -14,7 +14,7 @@ pub record Watched : Type 0 where
 abbrev pub IsAdded : Watched → Literal → Type 0
 IsAdded watched literal = (1 ≤ literal.var) × (literal.var ≤ watched.vars)
 
--- where the literal's list stands among the lists
+-- where the literal's list is among the lists
 abbrev pub index_of : Literal → ℕ
 index_of literal = 2 * (literal.var - 1) + (if literal.positive then 0 else 1)
 

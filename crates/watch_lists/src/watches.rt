@@ -119,7 +119,7 @@ impl Watches {
     }
 }
 
-/// Where the literal's list stands among the lists.
+/// Where the literal's list is among the lists.
 fn index(lit: Lit) -> u64
     requires { 1 ≤ lit.var }
     ensures { result ≡ index_of lit }

@@ -4,7 +4,7 @@ use Rattle.step_rules.specs.Placement.{start_of}
 use Rattle.step_rules.specs.Play.{AreLegal, after_steps, one_at_a_time}
 use Rattle.compact.proofs.tests.passes.Given as goal
 
--- the first actions are legal, and this is where the ions stand after them
+-- the first actions are legal, and this is where the ions are after them
 abbrev pub invariant-loop-action : goal.invariant-loop-action
 invariant-loop-action l = record {
   config : IsConfigOf l.setting.trap l.config;

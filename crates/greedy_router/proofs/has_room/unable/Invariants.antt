@@ -1,5 +1,5 @@
 use Rattle.std.proofs.Common.{◌≡◌, ℕ, ◌<◌, true}
-use Rattle.step_rules.specs.Guards.{is_performed}
+use Rattle.circuit_core.specs.Order.{is_performed}
 use Rattle.greedy_router.specs.Room.{HasAbleZone}
 use Rattle.greedy_router.proofs.has_room.unable.Given as goal
 

@@ -24,12 +24,12 @@ returns-in-Some c = record {
       let before : Before = before_of c.args.past.now (take count c.args.step.now) in
       let same = get_or_from_slice_get c.args.step.now count action no_action at in
       is_shared setting before c.args.config.now.lists c.args.progress.now.earlier.items c.args.progress.now.done.items c.args.footprints.now c.footprint-works.result given action c.in-Some.first (count + 1) (length c.args.past.now + 1)
-      c.requires.stands same passes works c.in-Some.ensures refl (omega (arith, counted c.args.step.now count c.requires.next));
+      c.requires.state same passes works c.in-Some.ensures refl (omega (arith, counted c.args.step.now count c.requires.next));
 }
 
 pub judge_op-requires-clause-closed : goal.judge_op-requires-clause-closed
 judge_op-requires-clause-closed c =
-    subst (λ (s : SettingValue). AreClosed s.circuit c.args.past.now) (sym c.setting.view_is) (closed c.args.setting.now c.args.past.now c.requires.stands.well)
+    subst (λ (s : SettingValue). AreClosed s.circuit c.args.past.now) (sym c.setting.view_is) (closed c.args.setting.now c.args.past.now c.requires.state.well)
 
 pub judge_op-requires-clause-there : goal.judge_op-requires-clause-there
 judge_op-requires-clause-there c =
@@ -48,7 +48,7 @@ returns-in_err-judge_op c = record {
       let works : spots c.footprint-works.result ≡ footprint setting.trap given = subst (λ (s : SettingValue). spots c.footprint-works.result ≡ footprint s.trap given) c.setting.view_is c.footprint-works.ensures in
       let before : Before = before_of c.args.past.now (take count c.args.step.now) in
       let alone : Alone setting before c.args.config.now.lists c.args.progress.now.earlier.items c.args.progress.now.done.items c.args.footprints.now c.footprint-works.result given action =
-      record { stands = c.requires.stands; same = get_or_from_slice_get c.args.step.now count action no_action at; passes = passes; is = works; none = c.in_default-first_meeting.ensures } in
+      record { state = c.requires.state; same = get_or_from_slice_get c.args.step.now count action no_action at; passes = passes; is = works; none = c.in_default-first_meeting.ensures } in
       let p = err_from_is_err_and c.from_residual.result c.from_residual.ensures.1 in
       rw (p.1, p.2)
       (offends_op setting before c.args.config.now.lists c.args.progress.now.earlier.items c.args.progress.now.done.items c.args.footprints.now c.footprint-works.result given action c.in-Op.zone c.in-Op.op (length c.args.past.now + 1) c.in_err-judge_op.field-0.0
@@ -67,7 +67,7 @@ returns-in_ok-judge_op c = record {
       let before : Before = before_of c.args.past.now (take count c.args.step.now) in
       let same = get_or_from_slice_get c.args.step.now count action no_action at in (
         well_op setting before c.args.config.now.lists c.args.progress.now.earlier.items c.args.progress.now.done.items c.args.footprints.now c.footprint-works.result given action c.in-Op.zone c.in-Op.op
-            (record { stands = c.requires.stands; same = same; passes = passes; is = works; none = c.in_default-first_meeting.ensures }) c.in-Op.is
+            (record { state = c.requires.state; same = same; passes = passes; is = works; none = c.in_default-first_meeting.ensures }) c.in-Op.is
             (subst (λ (s : SettingValue). OpIsWell s.circuit c.args.progress.now.earlier.items c.args.progress.now.done.items c.in-Op.op) c.setting.view_is c.in_ok-judge_op.ensures),
         works ∙ ap (footprint setting.trap) same,
       );
@@ -84,7 +84,7 @@ returns-in_default-action c = record {
       let before : Before = before_of c.args.past.now (take count c.args.step.now) in
       let same = get_or_from_slice_get c.args.step.now count action no_action at in (
         well_other setting before c.args.config.now.lists c.args.progress.now.earlier.items c.args.progress.now.done.items c.args.footprints.now c.footprint-works.result given action
-            (record { stands = c.requires.stands; same = same; passes = passes; is = works; none = c.in_default-first_meeting.ensures }) c.in_default-action.not-Op,
+            (record { state = c.requires.state; same = same; passes = passes; is = works; none = c.in_default-first_meeting.ensures }) c.in_default-action.not-Op,
         works ∙ ap (footprint setting.trap) same,
       );
 }

@@ -20,10 +20,10 @@ loop-action-preserved c =
     let goes : Goes setting c.args.past.now (take (i + 1) c.args.step.now) c.args.config.now.lists c.note.new.self.earlier.items c.note.new.self.done.items c.push.new.self.items =
     goes_on setting c.args.past.now c.args.step.now i (length c.deref.result.now) _ c.args.config.now.lists c.loop-action.progress.earlier.items c.loop-action.progress.done.items c.note.new.self.earlier.items c.note.new.self.done.items
     c.loop-action.footprints.items c.push.new.self.items c.in_ok-works.works (ap length c.deref.ensures.value ∙ c.loop-action.invariant.count) c.loop-action-test.true
-    (record { stands = c.loop-action.invariant.stands; well = c.loop-action.invariant.well }) c.in_ok-works.ensures.well (ap (λ v. v.items) c.note.ensures.earlier) c.note.ensures.done grown in
+    (record { state = c.loop-action.invariant.state; well = c.loop-action.invariant.well }) c.in_ok-works.ensures.well (ap (λ v. v.items) c.note.ensures.earlier) c.note.ensures.done grown in
     record {
       count = omega (arith, ap length grown, length-append c.loop-action.footprints.items (c.in_ok-works.works ∷ []), c.loop-action.invariant.count);
-      stands = goes.stands;
+      state = goes.state;
       well = goes.well;
       earlier = c.note.ensures.earlier ∙ c.loop-action.invariant.earlier;
       ready = c.note.ensures.ready ∙ c.loop-action.invariant.ready;

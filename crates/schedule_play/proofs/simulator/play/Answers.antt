@@ -7,7 +7,7 @@ use Rattle.step_rules.specs.Setting.{SettingValue, setting_of}
 use Rattle.schedule_play.specs.Progress.{AreFlags, marked, StepIsWell, ExplainsStep}
 use Rattle.schedule_play.specs.Ready.{IsReadyTable, IsReadyThroughout}
 use Rattle.schedule_play.proofs.Going.{well_none}
-use Rattle.schedule_play.proofs.Played.{explained, may_be_taken, stands_next, lacked, played}
+use Rattle.schedule_play.proofs.Played.{explained, may_be_taken, state_next, lacked, played}
 use Rattle.schedule_play.proofs.simulator.play.Goals as goal
 
 pub returns-in_err-judge_step-clause-fault : goal.returns-in_err-judge_step-clause-fault
@@ -21,7 +21,7 @@ returns-in_err-judge_step-clause-fault c =
     let p = err_from_is_err_and c.from_residual-in_err-judge_step.result c.from_residual-in_err-judge_step.ensures.1 in
     let says : ExplainsStep setting (take time c.args.schedule.now) step c.in_err-judge_step.field-0.0 =
     subst (λ (l : List (List Action)). ExplainsStep setting (take time l) step c.in_err-judge_step.field-0.0) c.steps-steps.ensures c.in_err-judge_step.ensures.fault in
-    rw (p.1, p.2) (explained setting c.args.schedule.now time step c.in_err-judge_step.field-0.0 there c.loop-time.invariant.stands.well says)
+    rw (p.1, p.2) (explained setting c.args.schedule.now time step c.in_err-judge_step.field-0.0 there c.loop-time.invariant.state.well says)
 
 pub take_step-requires-clause-legal : goal.take_step-requires-clause-legal
 take_step-requires-clause-legal c =
@@ -29,7 +29,7 @@ take_step-requires-clause-legal c =
     let step : List Action = c.actions-actions.result.now in
     let time : ℕ = c.loop-time.time in
     let well : StepIsWell setting (take time c.args.schedule.now) step = subst (λ (l : List (List Action)). StepIsWell setting (take time l) step) c.steps-steps.ensures c.in_ok-judge_step.ensures.well in
-    may_be_taken setting (take time c.args.schedule.now) step step c.loop-time.config.lists refl c.loop-time.invariant.stands.config well
+    may_be_taken setting (take time c.args.schedule.now) step step c.loop-time.config.lists refl c.loop-time.invariant.state.config well
 
 pub loop-time-preserved : goal.loop-time-preserved
 loop-time-preserved c =
@@ -45,8 +45,8 @@ loop-time-preserved c =
     subst (AreFlags c.args.circuit.now (take time c.args.schedule.now ++ step ∷ [])) (ap (λ v. v.items) (sym c.take_step.ensures.done))
     (subst (λ (l : List (List Action)). AreFlags c.args.circuit.now (take time l ++ step ∷ []) c.judge_step.new.progress.done.items) c.steps-steps.ensures c.in_ok-judge_step.ensures.done) in
     record {
-      stands = stands_next setting c.args.schedule.now time step step c.loop-time.config.lists c.take_step.new.config.lists c.loop-time.progress.earlier.items c.loop-time.progress.done.items c.take_step.new.progress.earlier.items
-          c.take_step.new.progress.done.items within read c.loop-time.invariant.stands well flags c.take_step.ensures.lists
+      state = state_next setting c.args.schedule.now time step step c.loop-time.config.lists c.take_step.new.config.lists c.loop-time.progress.earlier.items c.loop-time.progress.done.items c.take_step.new.progress.earlier.items
+          c.take_step.new.progress.done.items within read c.loop-time.invariant.state well flags c.take_step.ensures.lists
           (c.take_step.ensures.earlier ∙ ap (λ v. fold marked v.items step) c.judge_step.ensures.earlier);
       config = c.take_step.ensures.config;
       ready = subst (λ v. IsReadyThroughout c.args.circuit.now c.args.schedule.now v.items) (sym (c.take_step.ensures.ready ∙ c.judge_step.ensures.ready)) c.loop-time.invariant.ready;
@@ -56,17 +56,17 @@ pub returns-in-Some-clause-fault : goal.returns-in-Some-clause-fault
 returns-in-Some-clause-fault c =
     let setting : SettingValue = setting_of c.args.trap.now c.args.circuit.now c.args.placement.now in
     lacked setting c.args.schedule.now c.loop-time.time c.loop-time.config.lists c.loop-time.progress.earlier.items c.loop-time.progress.done.items c.in-Some.op.0 (omega (arith, c.loop-time-test.false, ap length c.steps-steps.ensures))
-    c.loop-time.invariant.stands c.in-Some.ensures
+    c.loop-time.invariant.state c.in-Some.ensures
 
 pub returns-in-None-clause-plays : goal.returns-in-None-clause-plays
 returns-in-None-clause-plays c =
     let setting : SettingValue = setting_of c.args.trap.now c.args.circuit.now c.args.placement.now in
-    played setting c.args.schedule.now c.loop-time.time c.loop-time.config.lists c.loop-time.progress.earlier.items c.loop-time.progress.done.items (omega (arith, c.loop-time-test.false, ap length c.steps-steps.ensures)) c.loop-time.invariant.stands
+    played setting c.args.schedule.now c.loop-time.time c.loop-time.config.lists c.loop-time.progress.earlier.items c.loop-time.progress.done.items (omega (arith, c.loop-time-test.false, ap length c.steps-steps.ensures)) c.loop-time.invariant.state
     c.in-None.ensures
 
 pub loop-time-init : goal.loop-time-init
 loop-time-init c = record {
-  stands = record {
+  state = record {
     config = c.in_ok-config.ensures.lists;
     earlier = c.in_ok-progress.ensures.earlier;
     done = c.in_ok-progress.ensures.done;

@@ -3,7 +3,7 @@ use Rattle.std.proofs.lemmas.Bool.{cases_Bool}
 use Rattle.qc_base.specs.declared.ids.OpId.{OpId}
 use Rattle.circuit_core.specs.Circuit.{CircuitValue}
 use Rattle.gate_order.specs.declared.progress.Progress.{Progress}
-use Rattle.gate_order.specs.Ready.{is_performed}
+use Rattle.circuit_core.specs.Order.{is_performed}
 use Rattle.gate_order.specs.Keeping.{op, IsFull, IsStateOf, IsStateButOf}
 use Rattle.gate_order.specs.Changes.{Settles, Puts}
 use Rattle.gate_order.proofs.States.{ready_room, still_open}

@@ -1,6 +1,6 @@
 use Rattle.std.proofs.Common.{◌≡◌, ◌++◌, ◌∷◌, [], List, false, set, true, sym, subst, ◌∙◌}
 use Rattle.qc_base.specs.declared.ids.Qubit.{Qubit}
-use Rattle.circuit_core.specs.Deciding.{stands}
+use Rattle.circuit_core.specs.Deciding.{is_listed}
 use Rattle.step_rules.proofs.Reading.{flag_says}
 use Rattle.placement.specs.Orders.{AreUsed}
 use Rattle.placement.proofs.Uses.{added_again, added_new}
@@ -16,5 +16,5 @@ pub returns-clause-added : goal.returns-clause-added
 returns-clause-added c uses are =
     let q : Qubit = c.args.qubit in
     let flags = c.args.self.now.used.items in
-    let new : stands q.0 uses ≡ false = flag_says flags uses q.0 c.index.result.now c.requires c.index.ensures are.flagged ∙ c.if-index.false in
+    let new : is_listed q.0 uses ≡ false = flag_says flags uses q.0 c.index.result.now c.requires c.index.ensures are.flagged ∙ c.if-index.false in
     subst (λ (l : List Qubit). AreUsed l (set flags q.0 true) (uses ++ q ∷ [])) (sym c.in_ok-push.ensures.items) (added_new c.args.self.now.qubits.items flags uses q c.requires new are)

@@ -3,7 +3,7 @@ use Rattle.std.specs.Prelude.{slice_get}
 use Rattle.qc_base.specs.declared.ids.Qubit.{Qubit}
 use Rattle.qc_base.specs.declared.ids.Ion.{Ion}
 use Rattle.step_rules.specs.Placement.{reading_order, times}
-use Rattle.step_rules.proofs.Reading.{in_front, behind, first_apart, number_found}
+use Rattle.step_rules.proofs.Reading.{in_front, in_rest, first_apart, number_found}
 use Rattle.step_rules.proofs.placement.Placement.qubit_of.Goals as goal
 
 pub returns-then-before-qubits-clause-qubit : goal.returns-then-before-qubits-clause-qubit
@@ -33,5 +33,5 @@ loop-list-preserved c =
     let past : length list ≤ c.loop-list.before = c.if-before-qubits.false in
     record {
       there = omega (arith, c.loop-list.invariant.there, ap length apart, length-append list rest);
-      same = sym (behind list rest c.loop-list.before past) ∙ ap (λ (l : List Qubit). slice_get l c.loop-list.before) (sym apart) ∙ c.loop-list.invariant.same;
+      same = sym (in_rest list rest c.loop-list.before past) ∙ ap (λ (l : List Qubit). slice_get l c.loop-list.before) (sym apart) ∙ c.loop-list.invariant.same;
     }

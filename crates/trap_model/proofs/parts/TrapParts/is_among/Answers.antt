@@ -2,7 +2,7 @@ use Rattle.std.proofs.Common.{sym, ◌∙◌, arith, ◌≡◌, true}
 use Rattle.std.specs.Str.{bytes_eq}
 use Rattle.trap_model.specs.Trap.{lists, names_of}
 use Rattle.trap_model.proofs.Doubles.{any_among}
-use Rattle.trap_model.proofs.parts.TrapParts.stands_among.Goals as goal
+use Rattle.trap_model.proofs.parts.TrapParts.is_among.Goals as goal
 
 pub returns-then-eq : goal.returns-then-eq
 returns-then-eq c =
