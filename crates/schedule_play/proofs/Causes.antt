@@ -1,6 +1,6 @@
 -- The causes of a fault at a place, by what was before it.
-use Rattle.std.proofs.Common.{◌≡◌, ℕ, ◌+◌, ◌<◌, ◌≤◌, List, [], ◌∷◌, ◌++◌, length, take, get_or, Bool, true, false, Some, refl, sym, ap, subst, ◌∙◌, inl, inr, arith}
-use Rattle.std.specs.Prelude.{All, IsTrue, slice_get, ◌⊎◌, ◌||◌}
+use Rattle.std.proofs.Common.{◌≡◌, ℕ, ◌+◌, ◌<◌, ◌≤◌, List, [], ◌∷◌, ◌++◌, length, take, get_or, Bool, true, false, Some, sym, ap, subst, ◌∙◌, inl, inr, arith}
+use Rattle.std.specs.Prelude.{All, IsTrue, slice_get, ◌||◌}
 use Rattle.std.proofs.lemmas.Bool.{cases_lt, eqb-true, false_from_ne_true}
 use Rattle.std.proofs.lemmas.Option.{none-some, same_Some, slice_get_within, get_or_from_slice_get}
 use Rattle.std.proofs.lemmas.List.{length-take-le, take-take}
@@ -16,8 +16,8 @@ use Rattle.step_rules.specs.Tight.{Meet}
 use Rattle.step_rules.specs.Play.{performs, is_done}
 use Rattle.schedule_play.specs.declared.fault.PlayFault.{PlayFault}
 use Rattle.schedule_play.specs.declared.fault.PlayFault.TheVariants as faults
-use Rattle.schedule_play.specs.Faults.{IsAt, PerformsAt, ComesBefore, config_before, Breaks, SharesSpot, IsShared, IsOwedAt, IsEarly, IsRepeated, Causes, rank, IsFirst, IsLeftOut, LeavesOut}
-use Rattle.schedule_play.specs.Judging.{Before, before_of, config_at, Owes, OwesFirst, was_done, Fits, MeetsFirst, IsWell, GoWell, Offends}
+use Rattle.schedule_play.specs.Faults.{IsAt, PerformsAt, ComesBefore, config_before, Breaks, IsShared, IsOwedAt, Causes, rank, IsFirst, LeavesOut}
+use Rattle.schedule_play.specs.Judging.{Before, before_of, Owes, was_done, Fits, MeetsFirst, IsWell, GoWell, Offends}
 use Rattle.schedule_play.specs.Progress.{StepIsWell, StepStops}
 use Rattle.schedule_play.proofs.Lists.{slice_pushed, slice_taken, slice_take, slice_last}
 use Rattle.schedule_play.proofs.Done.{DoneAt, done_at, at_done, done_append}

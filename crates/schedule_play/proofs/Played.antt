@@ -22,7 +22,7 @@ use Rattle.schedule_play.specs.declared.fault.PlayFault.{PlayFault}
 use Rattle.schedule_play.specs.declared.fault.PlayFault.TheVariants as faults
 use Rattle.schedule_play.specs.Faults.{LeavesOut, Explains}
 use Rattle.schedule_play.specs.Judging.{before_of, config_at, was_done, IsWell, GoWell}
-use Rattle.schedule_play.specs.Progress.{AreFlags, marked, IsStateBefore, StepIsWell, StepStops, ExplainsStep, IsUndone, IsMissing, MayBeTaken}
+use Rattle.schedule_play.specs.Progress.{AreFlags, marked, IsStateBefore, StepIsWell, ExplainsStep, IsUndone, IsMissing, MayBeTaken}
 use Rattle.schedule_play.proofs.Lists.{slice_take, slice_taken, there_is}
 use Rattle.step_rules.proofs.Carried.{transport_of}
 use Rattle.schedule_play.proofs.Done.{DoneAt, done_at, at_done, done_append, done_none, done_more, flags_step, flags_next}

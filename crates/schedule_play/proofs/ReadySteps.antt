@@ -1,11 +1,10 @@
 -- From which step on all that has to come before an operation is done.
-use Rattle.std.proofs.Common.{◌≡◌, ℕ, suc, ◌+◌, ◌-◌, ◌<◌, ◌≤◌, ◌^◌, List, [], ◌∷◌, ◌++◌, length, take, get_or, set, Bool, true, false, Some, refl, sym, ap, subst, ◌∙◌, inl, inr, arith, get_or-set_same, get_or-set_other, length-append}
+use Rattle.std.proofs.Common.{◌≡◌, ℕ, suc, ◌+◌, ◌-◌, ◌<◌, ◌≤◌, ◌^◌, List, [], ◌∷◌, ◌++◌, length, take, get_or, set, true, false, Some, refl, sym, ap, subst, ◌∙◌, inl, inr, arith, get_or-set_same, get_or-set_other, length-append}
 use Rattle.std.specs.Prelude.{IsTrue, ◌⊎◌, slice_get, fold, min, max}
-use Rattle.std.proofs.Math.Nat.{min-le_left}
 use Rattle.std.proofs.Math.Seq.{get_or-append_seam}
-use Rattle.std.proofs.lemmas.Bool.{cases_Bool, cases_eq, cases_lt, cond-true, cond-false, eqb-true, eq-eqb}
-use Rattle.std.proofs.lemmas.Option.{same_Some, slice_get-get_or, slice_get_within}
-use Rattle.std.proofs.lemmas.List.{get_or_append_left, get_or-replicate, length-set, length-take-le}
+use Rattle.std.proofs.lemmas.Bool.{cases_Bool, cases_eq, cases_lt, cond-true, cond-false, eq-eqb}
+use Rattle.std.proofs.lemmas.Option.{same_Some, slice_get_within}
+use Rattle.std.proofs.lemmas.List.{get_or_append_left, length-set, length-take-le}
 use Rattle.qc_base.specs.declared.ids.OpId.{OpId}
 use Rattle.circuit_core.specs.Circuit.{CircuitValue}
 use Rattle.circuit_core.specs.Order.{Forced, IsReached, is_performed}
@@ -13,9 +12,9 @@ use Rattle.circuit_core.specs.Nearest.{IsListed, AreNearest}
 use Rattle.circuit_core.proofs.Forcing.{forced_before}
 use Rattle.step_rules.specs.declared.action.Action.{Action}
 use Rattle.step_rules.specs.declared.action.Action.TheVariants as actions
-use Rattle.step_rules.specs.Play.{performs, is_done}
-use Rattle.schedule_play.specs.Ready.{IsReady, AreClosed, AreDoneAfter, noted, settled_after, AreReadyAfter, IsReadyTable, IsReadyThroughout}
-use Rattle.schedule_play.proofs.Lists.{slice_take, there_is, is_there}
+use Rattle.step_rules.specs.Play.{is_done}
+use Rattle.schedule_play.specs.Ready.{AreClosed, AreDoneAfter, noted, settled_after, AreReadyAfter, IsReadyThroughout}
+use Rattle.schedule_play.proofs.Lists.{slice_take, there_is}
 use Rattle.schedule_play.proofs.Owed.{numbered}
 use Rattle.schedule_play.proofs.Done.{at_done}
 

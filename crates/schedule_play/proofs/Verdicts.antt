@@ -1,11 +1,10 @@
 -- A schedule has at most one first fault, and one that plays has none.
 use Rattle.std.proofs.Common.{◌≡◌, ℕ, zero, suc, ◌+◌, ◌<◌, ◌≤◌, List, [], ◌∷◌, ◌++◌, length, take, get_or, Bool, true, false, Some, refl, sym, ap, subst, ◌∙◌, inl, inr, arith}
-use Rattle.std.specs.Prelude.{All, slice_get, if◌then◌else◌, ◌||◌}
+use Rattle.std.specs.Prelude.{slice_get, if◌then◌else◌, ◌||◌}
 use Rattle.std.specs.List.{list_any}
 use Rattle.std.proofs.lemmas.Bool.{cases_Bool, cases_order, false_from_ne_true}
 use Rattle.std.proofs.lemmas.Option.{none-some, same_Some, slice_get_within, get_or_from_slice_get}
-use Rattle.std.proofs.lemmas.List.{length-take-le, get_or-take, take-append-le, take-take}
-use Rattle.std.proofs.Math.Seq.{take-append_seam}
+use Rattle.std.proofs.lemmas.List.{length-take-le, get_or-take}
 use Rattle.qc_base.specs.Counting.{how_many}
 use Rattle.qc_base.specs.declared.ids.Ion.{Ion}
 use Rattle.qc_base.specs.declared.ids.OpId.{OpId}
@@ -16,13 +15,12 @@ use Rattle.step_rules.specs.Placement.{start_of}
 use Rattle.step_rules.specs.Setting.{SettingValue}
 use Rattle.step_rules.specs.Steps.{AreApart, IsLegal, after_step}
 use Rattle.step_rules.specs.Guards.{Passes, guards, first_broken}
-use Rattle.step_rules.specs.Tight.{Meet}
 use Rattle.step_rules.specs.Play.{AreLegal, performs, actions_of, PerformsIn, Plays, after_steps, is_done}
 use Rattle.schedule_play.specs.declared.fault.PlayFault.{PlayFault}
 use Rattle.schedule_play.specs.declared.fault.PlayFault.TheVariants as faults
 use Rattle.schedule_play.specs.Faults.{PerformsAt, config_before, SharesSpot, IsShared, IsOwedAt, IsEarly, Causes, rank, IsFirst, LeavesOut, IsFault}
-use Rattle.schedule_play.specs.Judging.{Before, before_of, config_at, was_done, Owes, Fits, IsWell, GoWell, MeetsFirst, Offends}
-use Rattle.schedule_play.proofs.Lists.{slice_take, slice_last, slice_kept, is_there}
+use Rattle.schedule_play.specs.Judging.{Before, before_of, config_at, was_done, Owes, Fits, GoWell}
+use Rattle.schedule_play.proofs.Lists.{slice_take, is_there}
 use Rattle.schedule_play.proofs.Done.{DoneAt, done_at, at_done}
 use Rattle.schedule_play.proofs.Causes.{one_action, performs_one, well_none_caused, out_undone}
 use Rattle.schedule_play.proofs.Played.{count, how_many-append, actions-append, count_last, op_of}

@@ -1,7 +1,6 @@
 //! The channel that the ions of an action go through.
 
 ghost use Rattle.std.specs.Prelude.{◌≡◌, ◌<◌, IfSome};
-ghost use Rattle.trap_model.specs.Trap.{place_count};
 ghost use Rattle.trap_model.specs.Channels.{channel_at};
 ghost use Rattle.trap_model.specs.Build.{IsTrap};
 ghost use Rattle.step_rules.specs.ActionChannel.{channel_for, transfer, IsWithin};

@@ -1,12 +1,11 @@
 //! Actions between two zones that a junction joins, and lists that are no placement.
 
-ghost use Rattle.std.specs.Prelude.{◌≡◌, ◌≤◌, ◌<◌, ◌∷◌, [], IsTrue, All, length, IfOk};
-ghost use Rattle.qc_base.specs.declared.ids.Qubit.{Qubit as AQubit};
+ghost use Rattle.std.specs.Prelude.{◌≡◌, ◌≤◌, ◌<◌, ◌∷◌, [], IsTrue, All, IfOk};
 ghost use Rattle.circuit_core.specs.Circuit.{qubit_count};
 ghost use Rattle.trap_model.specs.Names.{is_name as is_name_of};
 ghost use Rattle.trap_model.specs.Trap.{lists, names_of};
 ghost use Rattle.trap_model.specs.Build.{AreNames};
-ghost use Rattle.step_rules.specs.Placement.{reading_order, IsPlacement};
+ghost use Rattle.step_rules.specs.Placement.{IsPlacement};
 ghost use Rattle.step_rules.specs.Config.{IsConfigOf};
 
 use crate::action::{Action, Rule, Schedule};

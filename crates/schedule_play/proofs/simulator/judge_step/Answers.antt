@@ -1,6 +1,6 @@
 use Rattle.std.proofs.Common.{◌≡◌, ◌+◌, [], ◌∷◌, ◌++◌, length, take, ap, ◌∙◌, arith, length-append}
 use Rattle.std.proofs.lemmas.Result.{err_from_is_err_and}
-use Rattle.step_rules.specs.Setting.{SettingValue, setting_of}
+use Rattle.step_rules.specs.Setting.{SettingValue}
 use Rattle.schedule_play.proofs.Stepped.{explained_step, Goes, goes_on, all_well}
 use Rattle.schedule_play.proofs.simulator.judge_step.Goals as goal
 

@@ -1,5 +1,4 @@
 use Rattle.std.proofs.Common.{◌≡◌, length, take}
-use Rattle.step_rules.specs.Setting.{setting_of}
 use Rattle.schedule_play.specs.Judging.{before_of}
 use Rattle.schedule_play.specs.Progress.{IsStateBefore, StepIsWell}
 use Rattle.schedule_play.proofs.simulator.judge_step.Given as goal
