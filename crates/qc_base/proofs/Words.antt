@@ -25,7 +25,7 @@ pub prefix_only : (bytes text : List ℕ) (r : Option (Bor (List ℕ))) → Matc
 prefix_only bytes text None h rest e = absurd (h rest e)
 prefix_only bytes text (Some x) h rest e = same_rest text x.now rest (sym h ∙ e)
 
--- a word without the sign is what stands before the first sign
+-- a word without the sign is what is before the first sign
 pub word_before : (sign : ℕ) (word other rest more : List ℕ) → IsFree sign word → IsFree sign other → word ++ sign ∷ rest ≡ other ++ sign ∷ more → (word ≡ other) × (rest ≡ more)
 word_before sign [] [] rest more free also e = (refl, cc)
 word_before sign [] (b ∷ other) rest more free also e = absurd (also 0 0 (omega arith) cc)
@@ -60,7 +60,7 @@ around_sign sign place bytes e =
     let is : get_or bytes place 0 ≡ sign = eqb-true _ _ found.1 in
     sym (take-append-drop place bytes) ∙ ap (λ (b : List ℕ). take place bytes ++ b) (drop_more bytes place 0 found.0 ∙ ap (λ (x : ℕ). x ∷ drop (place + 1) bytes) is)
 
--- the word and the rest that were read are those that stand there
+-- the word and the rest that were read are those that are there
 pub same_word : (sign place : ℕ) (word rest bytes : List ℕ) → IsFree sign word → bytes ≡ word ++ sign ∷ rest → position (λ byte. byte == sign) bytes ≡ Some place
     → (take place bytes ≡ word) × (drop (place + 1) bytes ≡ rest)
 same_word sign place word rest bytes free e at =

@@ -5,6 +5,6 @@ use Rattle.std.specs.Prelude.{◌≢◌, ℕ, ◌<◌, ◌⊎◌, List, All}
 abbrev pub IsSign : ℕ → Type 0
 IsSign sign = (sign < 48) ⊎ (57 < sign)
 
--- the sign doesn't stand in the word
+-- the sign isn't in the word
 abbrev pub IsFree : ℕ → List ℕ → Type 0
 IsFree sign word = All (λ byte. byte ≢ sign) word

@@ -14,7 +14,7 @@ pub fn strip_prefix<'a>(bytes: &'a [u8], text: &[u8]) -> Option<&'a [u8]>
     bytes.strip_prefix(text)
 }
 
-// Where the first such sign stands.
+// Where the first such sign is.
 fn place_of(bytes: &[u8], sign: u8) -> Option<usize>
     ensures { result ≡ position (λ byte. byte == sign) bytes.now }
 {

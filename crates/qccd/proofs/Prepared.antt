@@ -21,7 +21,7 @@ use Rattle.qccd.specs.Found.{Found, name_in, put_name, IsFoundUnder, IsFound}
 use Rattle.qccd.specs.Prepare.{InputsOf, Planned, JudgedOf, JudgedFor, Comes, Prepares, refused_request, refused_words}
 use Rattle.qccd.specs.Loading.{LoadsBoth, CountsAll, Finishes}
 use Rattle.run_answers.specs.Answer.{cites_names, fault_line}
-use Rattle.qccd.specs.Run.{HasNames, SinkFacts, Tells, Devices}
+use Rattle.qccd.specs.Run.{HasNames, SinkFacts, IsReported, Devices}
 use Rattle.qccd.specs.Preparing.{HasName, HasInputs, answer_in, Judging, Prepared, IsFinished, names_of}
 use Rattle.qccd.proofs.Stages.{reached_value, finishes_ok, finishes_err, then_ok, then_err}
 use Rattle.qccd.proofs.Reading.{found_before, found_after, not_read, no_fault}
@@ -256,8 +256,8 @@ has_names found refusal named cites =
     }
 
 -- the line with the names of what was handed over
-pub told_with : (before now : SinkFacts) (answer : Answer) (a b : Option Inputs) → a ≡ b → Tells before now (fault_line (names_of a) answer) → Tells before now (fault_line (names_of b) answer)
-told_with before now answer a b same told = subst (λ (i : Option Inputs). Tells before now (fault_line (names_of i) answer)) same told
+pub line_with : (before now : SinkFacts) (answer : Answer) (a b : Option Inputs) → a ≡ b → IsReported before now (fault_line (names_of a) answer) → IsReported before now (fault_line (names_of b) answer)
+line_with before now answer a b same line = subst (λ (i : Option Inputs). IsReported before now (fault_line (names_of i) answer)) same line
 
 -- ---- work that was put and written
 

@@ -33,13 +33,13 @@ found_before before middle now name found more (inr none) = inr (none.0, rose_la
 
 pub found_after : (before middle now : ShelfFacts) (name : List ℕ) (found : Option (List ℕ)) → OnlyReads before middle → IsFoundAs middle now name found → IsFoundAs before now name found
 found_after before middle now name found first (inl held) =
-    inl (λ tells. held (subst IsTrue (sym first.as_told) tells) ∙ ap (λ (contents : List ℕ → Option (List ℕ)). contents name) first.same)
+    inl (λ known. held (subst IsTrue (sym first.as_known) known) ∙ ap (λ (contents : List ℕ → Option (List ℕ)). contents name) first.same)
 found_after before middle now name found first (inr none) =
     inr (none.0, rose_from (before.read_faults name) (middle.read_faults name) (now.read_faults name) (first.later name) none.1)
 
 -- a file that isn't read is what the shelf holds
 pub not_read : (before now : ShelfFacts) (name : List ℕ) → IsFoundAs before now name (before.contents name)
-not_read before now name = inl (λ tells. refl)
+not_read before now name = inl (λ known. refl)
 
 -- ---- one file
 
@@ -58,24 +58,24 @@ pub above_limit : (file : File) (bytes : List ℕ) → limit_of file < length by
 above_limit file bytes more = sym (ap (λ (b : Bool). if b then Ok bytes else Err (answers.Long file)) (above (length bytes) (limit_of file) more))
 
 pub loads_long : (before now : ShelfFacts) (name : List ℕ) (file : File) (limit : ℕ) → limit ≡ limit_of file
-    → (content : List ℕ) × (IsTrue before.tells → before.contents name ≡ Some content) × (limit < length content)
+    → (content : List ℕ) × (IsTrue before.known → before.contents name ≡ Some content) × (limit < length content)
     → Loads before now name (λ content. Is (bytes_of file content)) (Err (answers.Long file))
 loads_long before now name file limit same long = record {
   content = Some long.0;
-  is_found = inl (λ tells. sym (long.1 tells));
+  is_found = inl (λ known. sym (long.1 known));
   reached = inr (above_limit file long.0 (subst (λ (n : ℕ). n < length long.0) same long.2));
 }
 
 pub loads_whole : (before now : ShelfFacts) (name : List ℕ) (file : File) (limit : ℕ) (bytes shown : List ℕ) → limit ≡ limit_of file → shown ≡ bytes
-    → (IsTrue before.tells → before.contents name ≡ Some bytes) → length bytes ≤ limit → Loads before now name (λ content. Is (bytes_of file content)) (Ok shown)
+    → (IsTrue before.known → before.contents name ≡ Some bytes) → length bytes ≤ limit → Loads before now name (λ content. Is (bytes_of file content)) (Ok shown)
 loads_whole before now name file limit bytes shown same is whole fits = record {
   content = Some bytes;
-  is_found = inl (λ tells. sym (whole tells));
+  is_found = inl (λ known. sym (whole known));
   reached = inr (in_limit file bytes shown is (subst (λ (n : ℕ). length bytes ≤ n) same fits));
 }
 
 pub loads_none : {X : Type 0} (before now : ShelfFacts) (name : List ℕ) (stage : Option (List ℕ) → Result X Answer → Type 0) → Loads before now name stage (Err answers.NoMemory)
-loads_none before now name stage = record { content = before.contents name; is_found = inl (λ tells. refl); reached = inl refl }
+loads_none before now name stage = record { content = before.contents name; is_found = inl (λ known. refl); reached = inl refl }
 
 same_file : {X : Type 0} (a b : File) → ◌≡◌ {A = Result X Answer} (Err (answers.ReadFault a)) (Err (answers.ReadFault b)) → b ≡ a
 same_file a b e = cc

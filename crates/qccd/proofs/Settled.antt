@@ -23,7 +23,7 @@ use Rattle.qccd.specs.Stages.{Is}
 use Rattle.qccd.specs.Found.{Found, name_in, put_name, held, IsFoundUnder, IsFound, FailsToRead, FailsToPut}
 use Rattle.qccd.specs.Prepare.{bytes_of, placed, JudgedFor, Comes, Prepares}
 use Rattle.qccd.specs.declared.ending.Ending.{Ending}
-use Rattle.qccd.specs.Run.{SinkFacts, Devices, Holds, KeepsFiles, IsWhole, FailedToPut, FailedToWrite, IsQuiet, IsDone, Concludes, KeepsCounts, NoneFailed, Tells, Runs, answer_to}
+use Rattle.qccd.specs.Run.{SinkFacts, Devices, Holds, KeepsFiles, IsWhole, FailedToPut, FailedToWrite, IsQuiet, IsDone, Concludes, KeepsCounts, NoneFailed, IsReported, Runs, answer_to}
 use Rattle.qccd.specs.Preparing.{IsFinished, names_of}
 use Rattle.qccd.specs.Loading.{IsRefusal, IsDoneBy, Finishes}
 use Rattle.qccd.proofs.Stages.{IsOne, then-one, as-one, inputs_of-one}
@@ -52,11 +52,11 @@ prepares-one found words = then-one _ _ (fixed-one (ok_or (request_of words) ans
 
 -- ---- where no read failed, what was found is what the shelf holds
 
-held_under : (before now : ShelfFacts) (name : Option (List ℕ)) (found : Option (List ℕ)) → IsTrue before.tells → ((n : List ℕ) → name ≡ Some n → Rose (before.read_faults n) (now.read_faults n) → ⊥)
+held_under : (before now : ShelfFacts) (name : Option (List ℕ)) (found : Option (List ℕ)) → IsTrue before.known → ((n : List ℕ) → name ≡ Some n → Rose (before.read_faults n) (now.read_faults n) → ⊥)
     → IsFoundUnder before now name found → found ≡ option_and_then before.contents name
-held_under before now None found tells none is = is
-held_under before now (Some name) found tells none (inl is) = is tells
-held_under before now (Some name) found tells none (inr failed) = absurd (none name refl failed.1)
+held_under before now None found known none is = is
+held_under before now (Some name) found known none (inl is) = is known
+held_under before now (Some name) found known none (inr failed) = absurd (none name refl failed.1)
 
 same_found : (a b : Found) → a.circuit ≡ b.circuit → a.trap ≡ b.trap → a.schedule ≡ b.schedule → a ≡ b
 same_found a b circuit trap schedule =
@@ -64,15 +64,15 @@ same_found a b circuit trap schedule =
     ∙ ap (λ (t : Option (List ℕ)). record { circuit = b.circuit; trap = t; schedule = a.schedule }) trap
     ∙ ap (λ (s : Option (List ℕ)). record { circuit = b.circuit; trap = b.trap; schedule = s }) schedule
 
-pub found_is_held : (before now : ShelfFacts) (words : List (List ℕ)) (found : Found) → IsTrue before.tells
+pub found_is_held : (before now : ShelfFacts) (words : List (List ℕ)) (found : Found) → IsTrue before.known
     → ((file : File) → FailsToRead (name_in words) file before.read_faults now.read_faults → ⊥) → IsFound before now (name_in words) found → found ≡ held before.contents words
-found_is_held before now words found tells none is =
+found_is_held before now words found known none is =
     let one : found.circuit ≡ (held before.contents words).circuit =
-    held_under before now (name_in words files.Circuit) found.circuit tells (λ n named rose. none files.Circuit (record { name = n; named = named; rose = rose })) is.circuit in
+    held_under before now (name_in words files.Circuit) found.circuit known (λ n named rose. none files.Circuit (record { name = n; named = named; rose = rose })) is.circuit in
     let two : found.trap ≡ (held before.contents words).trap =
-    held_under before now (name_in words files.Trap) found.trap tells (λ n named rose. none files.Trap (record { name = n; named = named; rose = rose })) is.trap in
+    held_under before now (name_in words files.Trap) found.trap known (λ n named rose. none files.Trap (record { name = n; named = named; rose = rose })) is.trap in
     let three : found.schedule ≡ (held before.contents words).schedule =
-    held_under before now (name_in words files.Schedule) found.schedule tells (λ n named rose. none files.Schedule (record { name = n; named = named; rose = rose })) is.schedule in
+    held_under before now (name_in words files.Schedule) found.schedule known (λ n named rose. none files.Schedule (record { name = n; named = named; rose = rose })) is.schedule in
     same_found found (held before.contents words) one two three
 
 -- an answer of neither kind
@@ -117,32 +117,32 @@ none_cut before now middle words ending reads out quiet (inr failed) = quiet.out
 
 settled_either : (before now middle : Devices) (words : List (List ℕ)) (found : Found) (ending : Ending) (result : Answer) (outcome : Result Work Answer)
     → IsFound before.shelf middle.shelf (name_in words) found → IsDoneBy (Prepares found words) ending → IsFinished (put_name words) ending middle now result → OnlyReads before.shelf middle.shelf
-    → middle.out ≡ before.out → IsTrue before.shelf.tells → Prepares (held before.shelf.contents words) words outcome → NoneFailed words before now → (result ≡ answers.Ok) ⊎ (result ≡ answers.WriteFault)
+    → middle.out ≡ before.out → IsTrue before.shelf.known → Prepares (held before.shelf.contents words) words outcome → NoneFailed words before now → (result ≡ answers.Ok) ⊎ (result ≡ answers.WriteFault)
     → (result ≡ answer_to outcome) ⊎ (result ≡ answers.NoMemory)
-settled_either before now middle words found ending result outcome is done finished reads out tells held_is quiet (inl ok) =
+settled_either before now middle words found ending result outcome is done finished reads out known held_is quiet (inl ok) =
     let none : (file : File) → FailsToRead (name_in words) file before.shelf.read_faults middle.shelf.read_faults → ⊥ =
     λ file failed. quiet.reads file (fails_later words file before.shelf middle.shelf now.shelf finished.files failed) in
-    let same = found_is_held before.shelf middle.shelf words found tells none is in
+    let same = found_is_held before.shelf middle.shelf words found known none is in
     let work = subst (λ (f : Found). Prepares f words (Ok done.work)) same done.is in
     inl (ok ∙ ap answer_to (prepares-one (held before.shelf.contents words) words (Ok done.work) outcome work held_is))
-settled_either before now middle words found ending result outcome is done finished reads out tells held_is quiet (inr cut) =
+settled_either before now middle words found ending result outcome is done finished reads out known held_is quiet (inr cut) =
     absurd (none_cut before now middle words ending reads out quiet (finished.part cut))
 
 -- the answer where the words and the files came to work
 pub settled_ok : (before now middle : Devices) (words : List (List ℕ)) (found : Found) (ending : Ending) (result : Answer) (outcome : Result Work Answer)
     → IsFound before.shelf middle.shelf (name_in words) found → IsDoneBy (Prepares found words) ending → IsFinished (put_name words) ending middle now result → OnlyReads before.shelf middle.shelf
-    → middle.out ≡ before.out → IsTrue before.shelf.tells → Prepares (held before.shelf.contents words) words outcome → NoneFailed words before now → (result ≡ answer_to outcome) ⊎ (result ≡ answers.NoMemory)
-settled_ok before now middle words found ending result outcome is done finished reads out tells held_is quiet =
-    settled_either before now middle words found ending result outcome is done finished reads out tells held_is quiet finished.either
+    → middle.out ≡ before.out → IsTrue before.shelf.known → Prepares (held before.shelf.contents words) words outcome → NoneFailed words before now → (result ≡ answer_to outcome) ⊎ (result ≡ answers.NoMemory)
+settled_ok before now middle words found ending result outcome is done finished reads out known held_is quiet =
+    settled_either before now middle words found ending result outcome is done finished reads out known held_is quiet finished.either
 
 -- the answer where they came to a refusal
 pub settled_err : (before now : ShelfFacts) (words : List (List ℕ)) (found : Found) (answer : Answer) (outcome : Result Work Answer)
-    → IsFound before now (name_in words) found → Finishes (Prepares found words) (Err answer) → IsTrue before.tells → Prepares (held before.contents words) words outcome
+    → IsFound before now (name_in words) found → Finishes (Prepares found words) (Err answer) → IsTrue before.known → Prepares (held before.contents words) words outcome
     → ((file : File) → FailsToRead (name_in words) file before.read_faults now.read_faults → ⊥)
     → (answer ≡ answer_to outcome) ⊎ (answer ≡ answers.NoMemory)
-settled_err before now words found answer outcome is (inl memory) tells held_is none = inr memory
-settled_err before now words found answer outcome is (inr refused) tells held_is none =
-    let same = found_is_held before now words found tells none is in
+settled_err before now words found answer outcome is (inl memory) known held_is none = inr memory
+settled_err before now words found answer outcome is (inr refused) known held_is none =
+    let same = found_is_held before now words found known none is in
     let stops = subst (λ (f : Found). Prepares f words (Err answer)) same refused in
     inl (ap answer_to (prepares-one (held before.contents words) words (Err answer) outcome stops held_is))
 
@@ -151,7 +151,7 @@ settled_err before now words found answer outcome is (inr refused) tells held_is
 holds_from : (name put : Option (List ℕ)) (before middle now : ShelfFacts) → OnlyReads before middle → Holds middle now name put → Holds before now name put
 holds_from name None before middle now reads holds = holds ∙ reads.same
 holds_from None (Some bytes) before middle now reads holds = holds
-holds_from (Some name) (Some bytes) before middle now reads holds = λ tells. holds (subst IsTrue (sym reads.as_told) tells)
+holds_from (Some name) (Some bytes) before middle now reads holds = λ known. holds (subst IsTrue (sym reads.as_known) known)
 
 whole_from : (name : Option (List ℕ)) (ending : Ending) (before middle now : Devices) → OnlyReads before.shelf middle.shelf → middle.out ≡ before.out → IsWhole name ending middle now → IsWhole name ending before now
 whole_from name ending before middle now reads out whole = record {
@@ -193,7 +193,7 @@ concludes_err found words before now answer finishes refusal quiet = record {
 
 pub files_from : (name : Option (List ℕ)) (before middle now : ShelfFacts) → OnlyReads before middle → KeepsFiles name middle now → KeepsFiles name before now
 files_from name before middle now reads files = record {
-  as_told = files.as_told ∙ reads.as_told;
+  as_known = files.as_known ∙ reads.as_known;
   all = λ none. files.all none ∙ reads.same;
   others = λ put other named differs. files.others put other named differs ∙ ap (λ (contents : Contents). contents other) reads.same;
   later = λ other. le_trans (reads.later other) (files.later other);
@@ -202,7 +202,7 @@ files_from name before middle now reads files = record {
 
 pub files_read : (name : Option (List ℕ)) (before now : ShelfFacts) → OnlyReads before now → KeepsFiles name before now
 files_read name before now reads = record {
-  as_told = reads.as_told;
+  as_known = reads.as_known;
   all = λ none. reads.same;
   others = λ put other named differs. ap (λ (contents : Contents). contents other) reads.same;
   later = reads.later;
@@ -256,20 +256,20 @@ pub record CameToWork (words : List (List ℕ)) (before middle now : Devices) (e
   pub finished : IsFinished (put_name words) ending middle now answer
 
 pub ran_ok : (words : List (List ℕ)) (before middle now : Devices) (ending : Ending) (answer : Answer) → CameToWork words before middle now ending answer
-    → Tells before.err now.err (fault_line (names_of None) answer) → Runs words before now answer
-ran_ok words before middle now ending answer came told = record {
+    → IsReported before.err now.err (fault_line (names_of None) answer) → Runs words before now answer
+ran_ok words before middle now ending answer came line = record {
   found = came.found;
   is_found = found_later (name_in words) came.found before.shelf middle.shelf now.shelf came.finished.files.later came.is_found;
   concludes = concludes_ok came.found words ending before middle now answer came.done came.reads came.counts came.out came.finished;
   names = names_of None;
   named = λ cites. absurd (cites_none answer came.finished.either cites);
-  told = told;
+  line = line;
 }
 
 pub settles_ok : (words : List (List ℕ)) (before middle now : Devices) (ending : Ending) (answer : Answer) → CameToWork words before middle now ending answer
-    → (outcome : Result Work Answer) → IsTrue before.shelf.tells → Prepares (held before.shelf.contents words) words outcome → NoneFailed words before now → (answer ≡ answer_to outcome) ⊎ (answer ≡ answers.NoMemory)
-settles_ok words before middle now ending answer came outcome tells held_is none =
-    settled_ok before now middle words came.found ending answer outcome came.is_found came.done came.finished came.reads came.out tells held_is none
+    → (outcome : Result Work Answer) → IsTrue before.shelf.known → Prepares (held before.shelf.contents words) words outcome → NoneFailed words before now → (answer ≡ answer_to outcome) ⊎ (answer ≡ answers.NoMemory)
+settles_ok words before middle now ending answer came outcome known held_is none =
+    settled_ok before now middle words came.found ending answer outcome came.is_found came.done came.finished came.reads came.out known held_is none
 
 pub keeps_ok : (words : List (List ℕ)) (before middle now : Devices) (ending : Ending) (answer : Answer) → CameToWork words before middle now ending answer → KeepsCounts words answer before.shelf now.shelf
 keeps_ok words before middle now ending answer came = counts_kept words ending before middle now answer came.reads came.counts came.finished

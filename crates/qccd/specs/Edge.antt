@@ -2,14 +2,14 @@
 use Rattle.std.specs.Prelude.{ℕ, List, false, Option, None}
 use Rattle.qc_base.specs.Shelf.{ShelfFacts}
 
--- what a sink took that tells nothing
+-- what a sink took of which nothing is known
 abbrev pub untold : Option (List ℕ)
 untold = None
 
--- a shelf that tells nothing; one count of faults serves for every name, and for reads and puts
+-- a shelf of which nothing is known; one count of faults serves for every name, and for reads and puts
 abbrev pub silent : ℕ → ShelfFacts
 silent faults = record {
-  tells = false;
+  known = false;
   contents = λ name. None;
   read_faults = λ name. faults;
   put_faults = λ name. faults;

@@ -17,10 +17,10 @@ pub record Found : Type 0 where
 abbrev pub name_in : List (List ℕ) → File → Option (List ℕ)
 name_in words file = option_and_then (λ asked. file_of asked file) (request_of words)
 
--- what the shelf has under the name, where it tells; or nothing, where a read of that very name failed
+-- what the shelf has under the name, where its contents are known; or nothing, where a read of that very name failed
 abbrev pub IsFoundAs : ShelfFacts → ShelfFacts → List ℕ → Option (List ℕ) → Type 0
 IsFoundAs before now name found =
-    (IsTrue before.tells → found ≡ before.contents name) ⊎ ((found ≡ None) × Rose (before.read_faults name) (now.read_faults name))
+    (IsTrue before.known → found ≡ before.contents name) ⊎ ((found ≡ None) × Rose (before.read_faults name) (now.read_faults name))
 
 -- the same of a file that may have no name, where there is nothing
 abbrev pub IsFoundUnder : ShelfFacts → ShelfFacts → Option (List ℕ) → Option (List ℕ) → Type 0

@@ -2,7 +2,7 @@
 use Rattle.std.specs.Prelude.{◌≡◌, Result, Ok, Err}
 use Rattle.run_answers.specs.declared.answer.Answer.{Answer}
 
--- a refusal stays, and anything else goes on to the next stage
+-- a refusal stays, and anything else continues to the next stage
 abbrev pub GoesOn : {X Y : Type 0} → (X → Result Y Answer → Type 0) → Result X Answer → Result Y Answer → Type 0
 GoesOn next (Ok x) outcome = next x outcome
 GoesOn next (Err answer) outcome = outcome ≡ Err answer

@@ -32,7 +32,7 @@ pub record IsTextOf (setting : SettingValue) (text : List ℕ) : Type 0 where
   pub text_is : text ≡ schedule_text setting schedule
 
 -- The schedule has the actions of a list that plays one after another, in which single ions travel and each operation
--- is performed where it is the least ready one whose ions stand together in an able zone, as soon as there is one. Pairs
+-- is performed where it is the least ready one whose ions are together in an able zone, as soon as there is one. Pairs
 -- that conflict keep the list's order by step.
 pub record IsRouted (setting : SettingValue) (schedule : List (List Action)) : Type 0 where
   pub actions : List Action

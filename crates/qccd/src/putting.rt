@@ -11,7 +11,7 @@ const PIECE: usize = 1 << 16;
 
 /// Puts the bytes under the name, piece after piece.
 pub fn put_whole<S: Shelf>(shelf: &mut S, name: &str, bytes: &[u8]) -> Result<(), Failed>
-    ensures puts { IsTrue (S.facts shelf.old).tells → OnOk result ((S.facts shelf.new).contents name.now ≡ Some bytes.now) }
+    ensures puts { IsTrue (S.facts shelf.old).known → OnOk result ((S.facts shelf.new).contents name.now ≡ Some bytes.now) }
     ensures cause { HasCause ((S.facts shelf.old).put_faults name.now) ((S.facts shelf.new).put_faults name.now) result }
     ensures stays { OnOk result (SameCounts (S.facts shelf.old) (S.facts shelf.new)) }
     ensures keeps { OnlyPuts name.now (S.facts shelf.old) (S.facts shelf.new) }
