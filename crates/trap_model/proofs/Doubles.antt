@@ -12,7 +12,7 @@ any_among p xs i n d h b e =
     let at : p (get_or (take n xs) i d) ≡ true = rw (get_or-take n xs i d h) e in
     list_any_at p (take n xs) i d (omega (arith, length-take n xs)) at
 
--- a name that doesn't are before is passed
+-- a name that isn't before is passed
 pub first_double_more : (names : List (List ℕ)) (i : ℕ) (d : List ℕ) → i < length names → list_any (bytes_eq (get_or names i d)) (take i names) ≡ false
     → first_double (take (i + 1) names) (drop (i + 1) names) ≡ first_double (take i names) (drop i names)
 first_double_more names i d h e =
