@@ -1,0 +1,11 @@
+pub mod Ranks
+pub mod Ranges
+pub mod HelperCounts
+pub mod Numbers
+pub mod Limited
+pub mod Building
+pub mod Places
+pub mod PlacesBack
+pub mod Inverse
+pub mod HaveNumbers
+pub mod StepHelpers

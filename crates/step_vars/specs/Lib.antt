@@ -1,0 +1,9 @@
+pub mod Items
+pub mod Numbering
+pub mod Lists
+pub mod ChannelTests
+pub mod Families
+pub mod Limits
+pub mod Encoding
+pub mod Tables
+pub mod ItemOf

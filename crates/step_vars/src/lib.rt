@@ -1,0 +1,27 @@
+//! The encoding of schedules in clauses: what its variables say and how they are numbered, and the clauses of
+//! each part.
+#![tactic(auto)]
+
+mod abilities;
+mod cells;
+mod channel_test;
+mod encoding;
+mod helpers;
+mod item;
+mod laws;
+mod sizes;
+mod tables;
+#[cfg(test)]
+mod tests;
+mod vars;
+
+pub use abilities::is_able;
+pub use cells::{Cell, Cells};
+pub use channel_test::ChannelTest;
+pub use encoding::Encoding;
+pub use item::{Claim, Item};
+pub use laws::{
+    helpers_are_in_their_part, helpers_are_no_items, items_have_numbers, numbers_differ,
+    parts_are_in_order, steps_have_equal_helpers,
+};
+pub use vars::Vars;
