@@ -1,5 +1,5 @@
 -- How decisions extend the trail.
-use Rattle.std.proofs.Common.{◌≡◌, ◌≢◌, ℕ, ◌+◌, List, [], ◌∷◌, ◌++◌, inl, inr, None, refl, sym, ap, ◌∙◌, subst, arith}
+use Rattle.std.proofs.Common.{◌≡◌, ◌≢◌, ℕ, ◌+◌, List, [], ◌∷◌, ◌++◌, ◌⊎◌, inl, inr, None, refl, sym, ap, ◌∙◌, subst, arith}
 use Rattle.std.proofs.lemmas.Bool.{cases_eq, cases_lt}
 use Rattle.sat_base.specs.Literal.{Literal, negated}
 use Rattle.sat_base.specs.Clauses.{Has}
@@ -78,13 +78,15 @@ denied trail assumption assumed order against = record {
   denied = against;
 }
 
--- propagation and a decision
-pub down_decided : (old mid next now : SolverState) (assumption literal : Literal) → IsDown old mid assumption → next ≡ record mid { trail = next.trail } → Propagates mid.log mid.trail next.trail → now ≡ record next { trail = assigned next.trail literal None } → IsAssumed assumption now.trail → IsDown old now assumption
-down_decided old mid next now assumption literal down rest propagates decided assumed = record {
-  down = record {
-    log = ap (λ (s : SolverState). s.log) decided ∙ ap (λ (s : SolverState). s.log) rest ∙ down.down.log;
-    vars = ap (λ (s : SolverState). s.trail.vars) decided ∙ ap (λ (t : Trail). t.vars) propagates.grows ∙ down.down.vars;
-    failed = ap (λ (s : SolverState). s.failed) decided ∙ ap (λ (s : SolverState). s.failed) rest ∙ down.down.failed;
-  };
+-- the assumption is decided, or is true and another literal is decided
+pub chosen_assumed : (trail : Trail) (assumption literal : Literal) → IsAssumed assumption trail → AreInOrder [] trail.entries → trail.level ≡ last_level trail.entries → IsOpen (literals_of trail.entries) literal → (literal ≡ assumption) ⊎ Has (literals_of trail.entries) assumption → IsAssumed assumption (assigned trail literal None)
+chosen_assumed trail assumption literal assumed order last unassigned (inl e) =
+    subst (λ (l : Literal). IsAssumed assumption (assigned trail l None)) (sym e) (assumption_decided trail assumption assumed (subst (IsOpen (literals_of trail.entries)) e unassigned))
+chosen_assumed trail assumption literal assumed order last unassigned (inr holds) = assumed_decided trail assumption literal assumed order last holds
+
+-- one step down after others
+pub down_more : (old mid now : SolverState) (assumption : Literal) → IsDown old mid assumption → ChangesTrailOnly mid now → IsAssumed assumption now.trail → IsDown old now assumption
+down_more old mid now assumption down changes assumed = record {
+  down = record { log = changes.log ∙ down.down.log; vars = changes.vars ∙ down.down.vars; failed = changes.failed ∙ down.down.failed };
   assumed = assumed;
 }

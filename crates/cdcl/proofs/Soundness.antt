@@ -61,7 +61,7 @@ up_to-higher lower level entries (x ∷ added) low all =
     ∙ up_to-higher lower level (entries ++ x ∷ []) added low (λ k d within. all (suc k) d (omega arith))
     ∙ up_to-push lower entries x (omega arith)
 
-Has-up_to : (level : ℕ) (entries : List Assigned) (literal : Literal) → Has (literals_of (up_to level entries)) literal → (lower : ℕ) × ((lower ≤ level) × IsFalseAt entries lower (negated literal))
+pub Has-up_to : (level : ℕ) (entries : List Assigned) (literal : Literal) → Has (literals_of (up_to level entries)) literal → (lower : ℕ) × ((lower ≤ level) × IsFalseAt entries lower (negated literal))
 Has-up_to level [] literal has = absurd has
 Has-up_to level (x ∷ entries) literal has =
     elim (cases_lt level x.level) [

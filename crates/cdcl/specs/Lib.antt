@@ -3,6 +3,8 @@ pub mod Clauses
 pub mod Solver
 pub mod Status
 pub mod Storing
-pub mod Sweeping
+pub mod Queue
+pub mod Linked
+pub mod Watching
 pub mod Learning
 pub mod Searching

@@ -9,9 +9,11 @@ ghost use Rattle.cdcl.specs.Clauses.{clauses_in};
 ghost use Rattle.cdcl.specs.Trail.{literals_of, IsFalse, AreForced};
 ghost use Rattle.cdcl.specs.Solver.{IsSound};
 ghost use Rattle.cdcl.specs.Learning.{Chained, IsResolved, IsVisited, IsReduced, IsTarget, IsResolvent};
-ghost use Rattle.cdcl.specs.Learning.{HasNoTrue, HasAnotherAt, HasAnother, CanResolve, IsKept, IsAsserting};
+ghost use Rattle.cdcl.specs.Watching.{IsPairOf, WatchesTarget};
+ghost use Rattle.cdcl.specs.Learning.{IsFalseAt, HasNoTrue, HasAnotherAt, HasAnother, CanResolve, IsKept, IsAsserting};
 
 use crate::values::{Assigned, Values};
+use crate::watching::Pair;
 use derivation_log::{LineId, Log};
 use qc_base::NoMemory;
 use sat_base::{Lit, LitSet};
@@ -46,6 +48,24 @@ fn has_another(values: &Values, clause: &[Lit], literal: Lit, level: u32) -> boo
         }
     }
     false
+}
+
+// A literal of the clause, other than that one, that is false at that level.
+fn other_at(values: &Values, clause: &[Lit], literal: Lit, level: u32) -> Option<Lit>
+    requires { IsFalse (literals_of values.now.entries) clause.now }
+    ensures some { IfSome result (λ other. Has clause.now other × (other ≢ literal)
+        × IsFalseAt values.now.entries level other) }
+    ensures none { IfNone result ((other : Literal) → Has clause.now other → other ≢ literal
+        → IsFalseAt values.now.entries level other → ⊥) }
+{
+    for &other in clause {
+        if values.level_of(other) == level {
+            if other != literal {
+                return Some(other);
+            }
+        }
+    }
+    None
 }
 
 // The larger of two numbers.
@@ -218,6 +238,20 @@ impl Analysis {
         ensures { IsTarget values.now.entries values.now.level self.now.clause result.0 result.1 }
     {
         target_of(values, self.clause.members())
+    }
+
+    /// The literal to assert and one of the level to go back to; none where the clause has no other.
+    pub(crate) fn pair(&self, values: &Values, asserted: Lit, target: u32) -> Option<Pair>
+        requires target { IsTarget values.now.entries values.now.level self.now.clause asserted target }
+        requires falsified { IsFalse (literals_of values.now.entries) self.now.clause }
+        ensures pair { IsPairOf self.now.clause result }
+        ensures watches { WatchesTarget values.now.entries target asserted result }
+    {
+        let second = other_at(values, self.clause.members(), asserted, target)?;
+        Some(Pair {
+            first: asserted,
+            second,
+        })
     }
 
     /// Resolves a false line to a clause with one literal of the current level, and answers that literal and the

@@ -1,7 +1,9 @@
 //! A solver for clauses that learns from conflicts and logs each clause that it learns.
 #![tactic(auto)]
 
+mod activity_heap;
 mod analysis;
+mod linked;
 mod pick;
 mod propagation;
 mod recent;
@@ -12,6 +14,7 @@ mod status;
 mod tests;
 mod values;
 mod verdict;
+mod watching;
 
 pub use pick::Pick;
 pub use recent::Recent;

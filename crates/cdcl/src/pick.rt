@@ -12,7 +12,7 @@ pub trait Pick {
     /// Makes room for so many further variables.
     fn grow(&mut self, n: u32) -> Result<(), NoMemory>;
 
-    /// The variable is one of a line that was just derived. It takes no memory.
+    /// The variable is one of a line that was just derived, or of a line that it was derived from. It takes no memory.
     fn met(&mut self, var: u32);
 
     /// A literal of an unassigned variable; none exactly where all are assigned. It takes no memory.

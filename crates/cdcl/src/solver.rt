@@ -1,6 +1,6 @@
 //! The solver.
 
-ghost use Rattle.std.specs.Prelude.{◌≡◌, ◌≢◌, ◌+◌, ◌<◌, ◌≤◌, ◌^◌, ◌↔◌, true, false, IsTrue, List, [], ◌∷◌, ◌++◌, Some, None, length, take, IfOk, OnOk, OnErr, IsErr, IfSome, IfNone};
+ghost use Rattle.std.specs.Prelude.{◌≡◌, ◌≢◌, ◌+◌, ◌<◌, ◌≤◌, ◌^◌, ◌↔◌, true, false, IsTrue, List, [], ◌∷◌, ◌++◌, Some, None, length, take, All, IfOk, OnOk, OnErr, IsErr, IfSome, IfNone};
 ghost use Rattle.sat_base.specs.Literal.{Literal, negated};
 ghost use Rattle.sat_base.specs.Clauses.{Has, HasDistinctVariables, EachVariable};
 ghost use Rattle.sat_base.specs.Derivation.{Refutes, AnyRefutes};
@@ -11,6 +11,8 @@ ghost use Rattle.cdcl.specs.Trail.{literals_of, back_to, value_in, values_of, as
 ghost use Rattle.cdcl.specs.Solver.{SolverState, empty_solver, with_trail, with_vars, with_clause, out_of_memory};
 ghost use Rattle.cdcl.specs.Solver.{Propagates, IsFalsified, Learns, IsRefuting, IsModel, IsVerdict};
 ghost use Rattle.cdcl.specs.Searching.{ChangesTrailOnly, IsAssumed, IsConflict, AddsLine, IsLearnt, IsRest, IsDenied};
+ghost use Rattle.cdcl.specs.Searching.{IsChosen, IsDeepened, HasOneLeft};
+ghost use Rattle.cdcl.specs.Watching.{IsPairOf};
 ghost use Rattle.cdcl.specs.Learning.{HasNoTrue};
 
 use crate::analysis::Analysis;
@@ -19,6 +21,7 @@ use crate::propagation::propagate_all;
 use crate::restarts::Restarts;
 use crate::values::Values;
 use crate::verdict::Verdict;
+use crate::watching::{Pair, Watching};
 use derivation_log::{LineId, Log};
 use qc_base::NoMemory;
 use sat_base::Lit;
@@ -31,6 +34,7 @@ use std::marker::Model;
 pub struct Solver<P: Pick> {
     log: Log,
     values: Values,
+    watching: Watching,
     pick: P,
     analysis: Analysis,
     failed: bool,
@@ -38,12 +42,13 @@ pub struct Solver<P: Pick> {
 
 impl<P: Pick> Model for Solver<P> {
     ghost use Rattle.cdcl.specs.Solver.{SolverState, IsSound};
+    ghost use Rattle.cdcl.specs.Watching.{AreWatched, kept_of};
 
     ghost Value = { SolverState };
 
     ghost view = { λ s. record { log = s.log; trail = s.values; failed = s.failed } };
 
-    ghost invariant = { λ s. IsSound s.log s.values };
+    ghost invariant = { λ s. IsSound s.log s.values × AreWatched s.log s.values (kept_of s.watching) };
 }
 
 /// Why the assignment can not be extended.
@@ -53,6 +58,53 @@ pub(crate) enum Conflict {
     Falsified(LineId),
     /// The assumption is false at level 0.
     Denied,
+}
+
+/// What a decision comes to.
+#[derive(Clone, Copy, Debug)]
+pub(crate) enum Choice {
+    /// The assumption is false.
+    Denied,
+    /// All variables have values.
+    Nothing,
+    Decided(Lit),
+}
+
+/// What propagation and a decision come to.
+#[derive(Clone, Copy, Debug)]
+pub(crate) enum Deepened {
+    Conflict(Conflict),
+    Complete,
+    Decided,
+}
+
+// The assumption where it is open, and else what the pick chooses.
+fn choose<P: Pick>(values: &Values, pick: &mut P, assumption: Lit) -> Choice
+    requires { assumption.var ≤ values.now.vars }
+    ensures { IsChosen values.now assumption result }
+{
+    match values.truth(assumption) {
+        Some(false) => Choice::Denied,
+        None => Choice::Decided(assumption),
+        Some(true) => match pick.pick(values) {
+            Some(literal) => Choice::Decided(literal),
+            None => Choice::Nothing,
+        },
+    }
+}
+
+// The first two literals of a clause; none where it has at most one.
+fn first_pair(lits: &[Lit]) -> Option<Pair>
+    requires { HasDistinctVariables lits.now }
+    ensures { IsPairOf lits.now result }
+{
+    if lits.len() < 2 {
+        return None;
+    }
+    Some(Pair {
+        first: lits[0],
+        second: lits[1],
+    })
 }
 
 // Whether a clause has no literal other than the negated goal.
@@ -65,6 +117,22 @@ fn refutes(clause: &[Lit], goal: Lit) -> bool
         }
     }
     true
+}
+
+// Hands the variables of a clause to the pick.
+fn meet_clause<P: Pick>(pick: &mut P, clause: &[Lit]) {
+    for literal in clause {
+        pick.met(literal.var());
+    }
+}
+
+// Hands the variables of the lines to the pick.
+fn meet_lines<P: Pick>(pick: &mut P, log: &Log, lines: &[LineId])
+    requires { All (IsLine log.now) lines.now }
+{
+    for &line in lines {
+        meet_clause(pick, log.clause(line));
+    }
 }
 
 // Variables count from 1: each literal that is read has such a variable.
@@ -84,6 +152,7 @@ impl<P: Pick> Solver<P> {
         Solver {
             log: Log::new(alloc),
             values: Values::new(alloc),
+            watching: Watching::new(alloc),
             pick,
             analysis: Analysis::new(alloc),
             failed: false,
@@ -102,6 +171,7 @@ impl<P: Pick> Solver<P> {
         }
         self.failed = true;
         self.pick.grow(n)?;
+        self.watching.grow(self.values.vars() + n)?;
         self.values.add_vars(n)?;
         self.failed = false;
         Ok(())
@@ -120,8 +190,13 @@ impl<P: Pick> Solver<P> {
         }
         self.failed = true;
         count_from_1(lits);
-        let _line = self.log.axiom(lits)?;
+        let watched = first_pair(lits);
+        self.watching.prepare(&watched)?;
+        let line = self.log.axiom(lits)?;
+        self.watching.commit(&watched, line);
         self.values.backjump(0);
+        // The new clause may watch literals that are false already.
+        self.watching.restart();
         self.failed = false;
         Ok(())
     }
@@ -174,6 +249,7 @@ impl<P: Pick> Solver<P> {
         let Solver {
             log,
             values: _,
+            watching: _,
             pick: _,
             analysis: _,
             failed: _,
@@ -190,7 +266,7 @@ impl<P: Pick> Solver<P> {
         ensures falsified { IfSome result (λ line. IsFalsified self.new.log self.new.trail line) }
         ensures closed { IfNone result (IsClosed (literals_of self.new.trail.entries) (clauses_in self.new.log)) }
     {
-        let falsified = propagate_all(&self.log, &mut self.values);
+        let falsified = propagate_all(&self.log, &mut self.values, &mut self.watching);
         let _order = self.values.entries();
         falsified
     }
@@ -201,8 +277,15 @@ impl<P: Pick> Solver<P> {
         ensures keeps { self.new ≡ with_trail (back_to level self.old.trail) self.old }
         ensures order { IsInOrder self.new.trail }
     {
+        let _before = self.values.entries();
         self.values.backjump(level);
-        let _order = self.values.entries();
+        let order = self.values.entries();
+        self.watching.cut(order.len());
+    }
+
+    /// How many links propagation looked at. It never falls. It takes no memory.
+    pub fn visited(&self) -> u64 {
+        self.watching.visited
     }
 
     // A derived line that refutes the goal.
@@ -222,17 +305,27 @@ impl<P: Pick> Solver<P> {
         None
     }
 
-    // Decides a literal.
-    fn decide(&mut self, literal: Lit)
-        requires within { literal.var ≤ self.old.trail.vars }
-        requires unassigned { value_in self.old.trail.entries literal.var ≡ None }
-        requires closed { IsClosed (literals_of self.old.trail.entries) (clauses_in self.old.log) }
-        ensures trail { self.new ≡ with_trail (assigned self.old.trail literal None) self.old }
-        ensures few { length self.new.trail.entries ≤ self.new.trail.vars }
+    // Propagates, and decides the assumption, or else what the pick chooses.
+    fn deepen(&mut self, assumption: Lit) -> Deepened
+        requires named { assumption.var ≤ self.old.trail.vars }
+        requires assumed { IsAssumed assumption self.old.trail }
+        ensures trail_only { ChangesTrailOnly self.old self.new }
+        ensures assumed { IsAssumed assumption self.new.trail }
+        ensures comes { IsDeepened self.old self.new assumption result }
     {
+        if let Some(line) = propagate_all(&self.log, &mut self.values, &mut self.watching) {
+            return Deepened::Conflict(Conflict::Falsified(line));
+        }
         let _order = self.values.entries();
-        self.values.assign(literal, None);
-        let _few = self.values.entries();
+        match choose(&self.values, &mut self.pick, assumption) {
+            Choice::Denied => Deepened::Conflict(Conflict::Denied),
+            Choice::Nothing => Deepened::Complete,
+            Choice::Decided(literal) => {
+                self.values.assign(literal, None);
+                let _few = self.values.entries();
+                Deepened::Decided
+            }
+        }
     }
 
     // Decides the assumption first, and then what the pick chooses, until there is a conflict or nothing is left.
@@ -245,17 +338,10 @@ impl<P: Pick> Solver<P> {
         ensures conflict { IfSome result (IsConflict self.new assumption) }
     {
         loop {
-            if let Some(line) = self.propagate() {
-                return Some(Conflict::Falsified(line));
-            }
-            let _order = self.values.entries();
-            match self.values.truth(assumption) {
-                Some(false) => return Some(Conflict::Denied),
-                None => self.decide(assumption),
-                Some(true) => {
-                    let literal = self.pick.pick(&self.values)?;
-                    self.decide(literal);
-                }
+            match self.deepen(assumption) {
+                Deepened::Conflict(conflict) => return Some(conflict),
+                Deepened::Complete => return None,
+                Deepened::Decided => {}
             }
         }
     }
@@ -268,6 +354,7 @@ impl<P: Pick> Solver<P> {
         requires is_line { IsLine self.old.log line }
         requires none_true { HasNoTrue (literals_of (take end self.old.trail.entries))
             (clause_of self.old.log line) }
+        requires one { HasOneLeft (literals_of (take end self.old.trail.entries)) (clause_of self.old.log line) }
         ensures adds { IfOk result (AddsLine self.old.log self.new.log) }
         ensures left { IfOk result (λ new. IsRest (literals_of (take end self.old.trail.entries))
             (clause_of self.old.log line) (clause_of self.new.log new)) }
@@ -277,7 +364,9 @@ impl<P: Pick> Solver<P> {
         let _order = self.values.entries();
         self.analysis.start(&self.log, line)?;
         self.analysis.reduce(&self.log, &self.values, end)?;
+        self.watching.prepare(&None)?;
         let new = self.log.derive(self.analysis.chain())?;
+        self.watching.commit(&None, new);
         Ok(new)
     }
 
@@ -317,9 +406,7 @@ impl<P: Pick> Solver<P> {
         requires { IsLine self.old.log line }
         ensures { self.new ≡ self.old }
     {
-        for literal in self.log.clause(line) {
-            self.pick.met(literal.var());
-        }
+        meet_clause(&mut self.pick, self.log.clause(line));
     }
 
     // Derives a line from a false one, goes back to the level where it forces a literal, and adds that literal.
@@ -337,8 +424,15 @@ impl<P: Pick> Solver<P> {
     {
         let _order = self.values.entries();
         let (asserted, target) = self.analysis.conflict(&self.log, &self.values, falsified)?;
+        let watched = self.analysis.pair(&self.values, asserted, target);
+        self.watching.prepare(&watched)?;
+        let lines = self.analysis.chain();
+        meet_lines(&mut self.pick, &self.log, lines);
+        let line = self.log.derive(lines)?;
+        self.watching.commit(&watched, line);
         self.values.backjump(target);
-        let line = self.log.derive(self.analysis.chain())?;
+        let kept = self.values.entries();
+        self.watching.cut(kept.len());
         self.values.assign(asserted, Some(line));
         Ok(line)
     }

@@ -137,6 +137,19 @@ impl Values {
         Some(value == literal.positive())
     }
 
+    /// Whether a literal is true.
+    pub(crate) fn is_true(&self, literal: Lit) -> bool
+        requires { literal.var ≤ self.now.vars }
+        ensures { IsTrue result ↔ Has (literals_of self.now.entries) literal }
+    {
+        let _entries = &self.entries;
+        match self.truth(literal) {
+            Some(true) => true,
+            Some(false) => false,
+            None => false,
+        }
+    }
+
     /// The current level.
     pub(crate) fn level(&self) -> u32
         ensures { result ≡ self.now.level }
