@@ -76,7 +76,7 @@ legal-from setting facts r config (suc count) sound_setting sound agrees steps =
     let next = next-agrees setting facts r (suc r) config can in (
       step-legal setting facts r (suc r) config can,
       legal-from setting facts (suc r) (after_step setting.trap config (step_of setting facts (suc r) config)) count sound_setting next.0 next.1
-      (later_steps setting facts r count steps),
+          (later_steps setting facts r count steps),
     )
 
 -- where the steps have led after k of them, and the step that is taken there

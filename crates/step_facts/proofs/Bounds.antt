@@ -67,18 +67,18 @@ from_activities : (setting : SettingValue) (a : Activity) → Contains (activiti
     → IsActivity setting a
 from_activities setting a c =
     elim (Contains-append_cases (passages_of setting ++ exchanges_of setting) (operations_of setting) a c) [
-  | inl others ↦ elim (Contains-append_cases (passages_of setting) (exchanges_of setting) a others) [
-    | inl passes ↦ from_passages setting a passes
-    | inr swaps ↦
-        let it = (Contains-flat_map (exchanges_at setting) (zones_of setting) a).0 swaps in
-        from_exchanges setting it.member a
+      | inl others ↦ elim (Contains-append_cases (passages_of setting) (exchanges_of setting) a others) [
+        | inl passes ↦ from_passages setting a passes
+        | inr swaps ↦
+            let it = (Contains-flat_map (exchanges_at setting) (zones_of setting) a).0 swaps in
+            from_exchanges setting it.member a
             ((Contains-range (length setting.trap.zones) it.member).0 it.there) it.in_image
-  ]
-  | inr performs ↦
-      let it = (Contains-flat_map (operations_at setting) (zones_of setting) a).0 performs in
-      from_operations setting it.member a
+      ]
+      | inr performs ↦
+          let it = (Contains-flat_map (operations_at setting) (zones_of setting) a).0 performs in
+          from_operations setting it.member a
           ((Contains-range (length setting.trap.zones) it.member).0 it.there) it.in_image
-]
+    ]
 
 in_passages : (setting : SettingValue) (c : ℕ) (channel : Channel) → IsActivity setting (passage c channel)
     → Contains (passages_of setting) (passage c channel)
@@ -100,7 +100,7 @@ in_activities : (setting : SettingValue) (a : Activity) → IsActivity setting a
     → Contains (activities_of setting) a
 in_activities setting (passage c channel) is =
     Contains-append_left (passages_of setting ++ exchanges_of setting) (operations_of setting)
-        (passage c channel)
+    (passage c channel)
     (Contains-append_left (passages_of setting) (exchanges_of setting) (passage c channel)
     (in_passages setting c channel is))
 in_activities setting (exchange i j z) is =
@@ -122,21 +122,21 @@ different_numbered k [] = λ i j d l h. absurd (omega arith)
 different_numbered k (channel ∷ channels) =
     AllPairs-first (λ c d. c ≢ d) (record { number = k; channel = channel }) (numbered_from (k + 1) channels)
     (λ c there e.
-      let later = (numbered_has (k + 1) channels c there).0 in
-      let same : k ≡ c.number = ap (λ (d : NumberedChannel). d.number) e in
-      omega arith)
+    let later = (numbered_has (k + 1) channels c there).0 in
+    let same : k ≡ c.number = ap (λ (d : NumberedChannel). d.number) e in
+    omega arith)
     (different_numbered (k + 1) channels)
 
 different_pairs : (ions : ℕ) → AreDifferent (pairs_of ions)
 different_pairs ions =
     AreDifferent-flat_map (λ i. map (cell i) (between (i + 1) ions)) (range_with_len 0 ions)
-        (AreDifferent-range 0 ions)
+    (AreDifferent-range 0 ions)
     (λ i i_in. AreDifferent-map (cell i) (between (i + 1) ions)
     (λ j k j_in k_in e. ap (λ (pair : Cell). pair.col) e) (AreDifferent-range (i + 1) (ions - (i + 1))))
     (λ i j pair i_in j_in first second.
-      let one = (Contains-map (cell i) (between (i + 1) ions) pair).0 first in
-      let other = (Contains-map (cell j) (between (j + 1) ions) pair).0 second in
-      ap (λ (it : Cell). it.row) (one.is ∙ sym other.is))
+    let one = (Contains-map (cell i) (between (i + 1) ions) pair).0 first in
+    let other = (Contains-map (cell j) (between (j + 1) ions) pair).0 second in
+    ap (λ (it : Cell). it.row) (one.is ∙ sym other.is))
 
 different_able : (setting : SettingValue) (z : ℕ) → AreDifferent (able_ops setting z)
 different_able setting z =
@@ -153,7 +153,7 @@ same_cell c d row col = rw (row, col) refl
 different_where : (setting : SettingValue) (test : Channel → Bool) → AreDifferent (channels_where test setting)
 different_where setting test =
     AreDifferent-filter (λ (c : NumberedChannel). test c.channel) (numbered_channels setting)
-        (different_numbered 0 (channels_of setting.trap))
+    (different_numbered 0 (channels_of setting.trap))
 
 different_passages : (cs : List NumberedChannel) → AreDifferent cs → AreDifferent (map of_channel cs)
 different_passages cs different =
@@ -220,11 +220,11 @@ pub different_activities : (setting : SettingValue) → AreDifferent (activities
 different_activities setting =
     let zones : AreDifferent (zones_of setting) = AreDifferent-range 0 (length setting.trap.zones) in
     let swaps : AreDifferent (exchanges_of setting) =
-        AreDifferent-flat_map (exchanges_at setting) (zones_of setting) zones
-            (λ z z_in. different_exchanges setting z) (λ y z a y_in z_in. one_exchange_zone setting y z a) in
+    AreDifferent-flat_map (exchanges_at setting) (zones_of setting) zones
+    (λ z z_in. different_exchanges setting z) (λ y z a y_in z_in. one_exchange_zone setting y z a) in
     let performs : AreDifferent (operations_of setting) =
-        AreDifferent-flat_map (operations_at setting) (zones_of setting) zones
-            (λ z z_in. different_operations setting z) (λ y z a y_in z_in. one_operation_zone setting y z a) in
+    AreDifferent-flat_map (operations_at setting) (zones_of setting) zones
+    (λ z z_in. different_operations setting z) (λ y z a y_in z_in. one_operation_zone setting y z a) in
     AreDifferent-append (passages_of setting ++ exchanges_of setting) (operations_of setting)
     (AreDifferent-append (passages_of setting) (exchanges_of setting)
     (different_passages (numbered_channels setting) (different_numbered 0 (channels_of setting.trap))) swaps
@@ -232,13 +232,13 @@ different_activities setting =
     passage_exchange setting (numbered_channels setting) it.member a passes it.in_image))
     performs
     (λ a others performed.
-      let it = (Contains-flat_map (operations_at setting) (zones_of setting) a).0 performed in
-      elim (Contains-append_cases (passages_of setting) (exchanges_of setting) a others) [
-        | inl passes ↦ passage_operation setting (numbered_channels setting) it.member a passes it.in_image
-        | inr swapped ↦
-            let other = (Contains-flat_map (exchanges_at setting) (zones_of setting) a).0 swapped in
-            exchange_operation setting other.member it.member a other.in_image it.in_image
-      ])
+    let it = (Contains-flat_map (operations_at setting) (zones_of setting) a).0 performed in
+    elim (Contains-append_cases (passages_of setting) (exchanges_of setting) a others) [
+      | inl passes ↦ passage_operation setting (numbered_channels setting) it.member a passes it.in_image
+      | inr swapped ↦
+          let other = (Contains-flat_map (exchanges_at setting) (zones_of setting) a).0 swapped in
+          exchange_operation setting other.member it.member a other.in_image it.in_image
+    ])
 
 -- ---- the activities at a place
 
@@ -263,34 +263,36 @@ from_zone : (setting : SettingValue) (z : ℕ) (a : Activity) → z < length set
     → Contains (in_zone setting z) a → IsActivity setting a × (works_at z a ≡ true)
 from_zone setting z a within c =
     elim (Contains-append_cases (exchanges_at setting z) (operations_at setting z) a c) [
-  | inl swaps ↦
-      (from_exchanges setting z a within swaps, rw (← (has_exchange setting z a swaps).is) (eq-eqb z z refl))
-  | inr performs ↦
-      (from_operations setting z a within performs, rw (← (has_operation setting z a performs).is)
-      (eq-eqb z z refl))
-]
+      | inl swaps ↦
+          (from_exchanges setting z a within swaps, rw (← (has_exchange setting z a swaps).is) (eq-eqb z z refl))
+      | inr performs ↦ (
+        from_operations setting z a within performs,
+        rw (← (has_operation setting z a performs).is)
+            (eq-eqb z z refl),
+      )
+    ]
 
 from_working : (setting : SettingValue) (p : ℕ) (a : Activity) → Contains (working_at setting p) a
     → IsActivity setting a × (works_at p a ≡ true)
 from_working setting p a c =
     elim (Contains-append_cases (passages_at setting p)
-        (if is_zone setting.trap p then in_zone setting p else []) a c) [
-  | inl passes ↦
-      let it = has_passage (channels_where (touches p) setting) a passes in
-      let known = (there-channel_where setting (touches p) it.member).0 it.there in
-      rw (← it.is) (known.0, known.1)
-  | inr others ↦ elim (cases_Bool (is_zone setting.trap p)) [
-    | inl zone ↦ from_zone setting p a (ltb-true p (length setting.trap.zones) zone) (rw zone at others)
-    | inr slot ↦ absurd (Contains-nil a (rw slot at others))
-  ]
-]
+    (if is_zone setting.trap p then in_zone setting p else []) a c) [
+      | inl passes ↦
+          let it = has_passage (channels_where (touches p) setting) a passes in
+          let known = (there-channel_where setting (touches p) it.member).0 it.there in
+          rw (← it.is) (known.0, known.1)
+      | inr others ↦ elim (cases_Bool (is_zone setting.trap p)) [
+        | inl zone ↦ from_zone setting p a (ltb-true p (length setting.trap.zones) zone) (rw zone at others)
+        | inr slot ↦ absurd (Contains-nil a (rw slot at others))
+      ]
+    ]
 
 in_working : (setting : SettingValue) (p : ℕ) (a : Activity) → IsActivity setting a → works_at p a ≡ true
     → Contains (working_at setting p) a
 in_working setting p (passage c channel) is works =
     let it : NumberedChannel = record { number = c; channel = channel } in
     Contains-append_left (passages_at setting p) (if is_zone setting.trap p then in_zone setting p else [])
-        (passage c channel)
+    (passage c channel)
     (in_map of_channel (channels_where (touches p) setting) it
     ((there-channel_where setting (touches p) it).1 (is, works)))
 in_working setting p (exchange i j z) is works =
@@ -309,7 +311,7 @@ in_working setting p (operation g z) is works =
 different_in_zone : (setting : SettingValue) (z : ℕ) → AreDifferent (in_zone setting z)
 different_in_zone setting z =
     AreDifferent-append (exchanges_at setting z) (operations_at setting z) (different_exchanges setting z)
-        (different_operations setting z)
+    (different_operations setting z)
     (λ a swaps performs. exchange_operation setting z z a swaps performs)
 
 passage_in_zone : (setting : SettingValue) (cs : List NumberedChannel) (z : ℕ) (a : Activity)
@@ -317,15 +319,15 @@ passage_in_zone : (setting : SettingValue) (cs : List NumberedChannel) (z : ℕ)
     → Contains (in_zone setting z) a → ⊥
 passage_in_zone setting cs z a passes others =
     elim (Contains-append_cases (exchanges_at setting z) (operations_at setting z) a others) [
-  | inl swaps ↦ passage_exchange setting cs z a passes swaps
-  | inr performs ↦ passage_operation setting cs z a passes performs
-]
+      | inl swaps ↦ passage_exchange setting cs z a passes swaps
+      | inr performs ↦ passage_operation setting cs z a passes performs
+    ]
 
 different_working : (setting : SettingValue) (p : ℕ) → AreDifferent (working_at setting p)
 different_working setting p =
     let cs = channels_where (touches p) setting in
     let passages : AreDifferent (passages_at setting p) = different_passages cs
-        (different_where setting (touches p)) in
+    (different_where setting (touches p)) in
     elim (cases_Bool (is_zone setting.trap p)) [
       | inl zone ↦ rw zone
           (AreDifferent-append (passages_at setting p) (in_zone setting p) passages
@@ -351,7 +353,7 @@ pub one_places_iff : (setting : SettingValue) (facts : Facts) (t : ℕ)
 one_places_iff setting facts t =
     let each = AreBounded-map facts (one_place setting t) (ions_of setting) in
     let one = λ (i : ℕ). one_is_true facts (λ p. at_item i p t) (places_of setting)
-        (AreDifferent-range 0 (place_count setting.trap)) in (
+    (AreDifferent-range 0 (place_count setting.trap)) in (
       λ all i p q known p_known q_known. (one i).0 (each.0 all i ((there-ion setting i).1 known)) p q
           ((there-place setting p).1 p_known) ((there-place setting q).1 q_known),
       λ law. each.1
@@ -373,45 +375,45 @@ pub one_activity_each_iff : (setting : SettingValue) (facts : Facts) (t : ℕ)
 one_activity_each_iff setting facts t =
     let each = AreBounded-map facts (λ p. bound 1 (activities_at setting t p)) (places_of setting) in
     let one = λ (p : ℕ). rw (items_at setting t p) at
-        (one_is_true facts (item_of t) (working_at setting p) (different_working setting p)) in (
+    (one_is_true facts (item_of t) (working_at setting p) (different_working setting p)) in (
       λ all p a b known is_a is_b works_a works_b.
-        (one p).0 (each.0 all p ((there-place setting p).1 known)) a b
-        (in_working setting p a is_a works_a) (in_working setting p b is_b works_b),
+          (one p).0 (each.0 all p ((there-place setting p).1 known)) a b
+          (in_working setting p a is_a works_a) (in_working setting p b is_b works_b),
       λ law. each.1 (λ p p_in. (one p).1 (λ a b a_in b_in.
-        let first = from_working setting p a a_in in
-        let second = from_working setting p b b_in in
-        law p a b ((there-place setting p).0 p_in) first.0 second.0 first.1 second.1)),
+          let first = from_working setting p a a_in in
+          let second = from_working setting p b b_in in
+          law p a b ((there-place setting p).0 p_in) first.0 second.0 first.1 second.1)),
     )
 
 different_numbers : (setting : SettingValue) (test : Channel → Bool) → AreDifferent (numbers_where test setting)
 different_numbers setting test =
     AreDifferent-map (λ (c : NumberedChannel). c.number) (channels_where test setting)
     (λ c d c_in d_in e.
-      let first = ((there-channel_where setting test c).0 c_in).0 in
-      let second = ((there-channel_where setting test d).0 d_in).0 in
-      same_numbered c d e
-          (same_Some c.channel d.channel
-          (sym first ∙ ap (λ n. slice_get (channels_of setting.trap) n) e ∙ second)))
+    let first = ((there-channel_where setting test c).0 c_in).0 in
+    let second = ((there-channel_where setting test d).0 d_in).0 in
+    same_numbered c d e
+    (same_Some c.channel d.channel
+    (sym first ∙ ap (λ n. slice_get (channels_of setting.trap) n) e ∙ second)))
     (different_where setting test)
 
 pub one_crossing_each_iff : (setting : SettingValue) (facts : Facts) (t : ℕ)
     → AreBounded facts (one_crossing_each setting t) ↔ OneCrossingEach setting facts t
 one_crossing_each_iff setting facts t =
     let each = AreBounded-map facts
-        (λ junction. bound 1 (map (λ c. use_item c t) (numbers_where (is_through junction) setting)))
-        (junctions_of setting) in
+    (λ junction. bound 1 (map (λ c. use_item c t) (numbers_where (is_through junction) setting)))
+    (junctions_of setting) in
     let one = λ (junction : ℕ). one_is_true facts (λ c. use_item c t)
-        (numbers_where (is_through junction) setting) (different_numbers setting (is_through junction)) in
+    (numbers_where (is_through junction) setting) (different_numbers setting (is_through junction)) in
     let there = λ (junction c : ℕ). there-number_where setting (is_through junction) c in (
       λ all junction c d first second known first_known second_known first_through second_through.
-        (one junction).0
-        (each.0 all junction ((Contains-range (length setting.trap.junctions) junction).1 known)) c d
-        ((there junction c).1 (record { channel = first; there = first_known; passes = first_through }))
-        ((there junction d).1 (record { channel = second; there = second_known; passes = second_through })),
+          (one junction).0
+          (each.0 all junction ((Contains-range (length setting.trap.junctions) junction).1 known)) c d
+          ((there junction c).1 (record { channel = first; there = first_known; passes = first_through }))
+          ((there junction d).1 (record { channel = second; there = second_known; passes = second_through })),
       λ law. each.1 (λ junction junction_in. (one junction).1 (λ c d c_in d_in.
-        let first = (there junction c).0 c_in in
-        let second = (there junction d).0 d_in in
-        law junction c d first.channel second.channel
-            ((Contains-range (length setting.trap.junctions) junction).0 junction_in)
-        first.there second.there first.passes second.passes)),
+          let first = (there junction c).0 c_in in
+          let second = (there junction d).0 d_in in
+          law junction c d first.channel second.channel
+          ((Contains-range (length setting.trap.junctions) junction).0 junction_in)
+          first.there second.there first.passes second.passes)),
     )

@@ -46,12 +46,12 @@ pub AllHold-flat_map : {X : Type 0} (facts : Facts) (f : X → List (List Claim)
 AllHold-flat_map facts f [] = (λ all x c. absurd (Contains-nil x c), λ each. tt)
 AllHold-flat_map facts f (x ∷ xs) =
     let later = AllHold-flat_map facts f xs in let both = AllHold-append facts (f x) (flat_map f xs) in (
-  λ all y c. elim ((Contains-cons x xs y).0 c) [
-    | inl e ↦ rw (← e) (both.0 all).0
-    | inr there ↦ later.0 (both.0 all).1 y there
-  ],
-  λ each. both.1 (each x (Contains-first x xs), later.1 (λ y c. each y (Contains-later x xs y c))),
-)
+      λ all y c. elim ((Contains-cons x xs y).0 c) [
+        | inl e ↦ rw (← e) (both.0 all).0
+        | inr there ↦ later.0 (both.0 all).1 y there
+      ],
+      λ each. both.1 (each x (Contains-first x xs), later.1 (λ y c. each y (Contains-later x xs y c))),
+    )
 
 pub AreBounded-append : (facts : Facts) (xs ys : List Bound) → AreBounded facts (xs ++ ys)
     ↔ (AreBounded facts xs × AreBounded facts ys)
@@ -228,7 +228,7 @@ pub numbered_has : (k : ℕ) (channels : List Channel) (c : NumberedChannel)
 numbered_has k [] c there = absurd (Contains-nil c there)
 numbered_has k (channel ∷ channels) c there =
     elim ((Contains-cons (record { number = k; channel = channel })
-        (numbered_from (k + 1) channels) c).0 there) [
+    (numbered_from (k + 1) channels) c).0 there) [
       | inl e ↦
           let none : k - k ≡ 0 = omega arith in
           rw (← e) (omega arith, rw none refl)
@@ -248,15 +248,15 @@ in_numbered k zero number (first ∷ channels) channel at known =
     (0, omega arith, rw (here, is) refl)
 in_numbered k (suc index) number (first ∷ channels) channel at known =
     Contains-later (record { number = k; channel = first }) (numbered_from (k + 1) channels)
-        (record { number = number; channel = channel })
+    (record { number = number; channel = channel })
     (in_numbered (k + 1) index number channels channel (omega arith) known)
 
 pub there-channel : (setting : SettingValue) (c : NumberedChannel) → Contains (numbered_channels setting) c
     ↔ IsChannel setting c.number c.channel
 there-channel setting c = (
   λ there.
-    let whole : c.number - 0 ≡ c.number = omega arith in
-    rw whole at (numbered_has 0 (channels_of setting.trap) c there).1,
+      let whole : c.number - 0 ≡ c.number = omega arith in
+      rw whole at (numbered_has 0 (channels_of setting.trap) c there).1,
   λ known. in_numbered 0 c.number c.number (channels_of setting.trap) c.channel (omega arith) known,
 )
 
@@ -279,11 +279,11 @@ pub there-number_where : (setting : SettingValue) (test : Channel → Bool) (num
     → Contains (numbers_where test setting) number ↔ HasNumber setting test number
 there-number_where setting test number = (
   λ there.
-    let it = (Contains-map (λ (c : NumberedChannel). c.number) (channels_where test setting) number).0 there in
-    let known = (there-channel_where setting test it.member).0 it.there in
-    rw (← it.is) (record { channel = it.member.channel; there = known.0; passes = known.1 }),
+      let it = (Contains-map (λ (c : NumberedChannel). c.number) (channels_where test setting) number).0 there in
+      let known = (there-channel_where setting test it.member).0 it.there in
+      rw (← it.is) (record { channel = it.member.channel; there = known.0; passes = known.1 }),
   λ it. in_map (λ (c : NumberedChannel). c.number) (channels_where test setting)
       (record { number = number; channel = it.channel })
-    ((there-channel_where setting test (record { number = number; channel = it.channel })).1
-    (it.there, it.passes)),
+      ((there-channel_where setting test (record { number = number; channel = it.channel })).1
+      (it.there, it.passes)),
 )

@@ -1,6 +1,6 @@
 -- The step of facts: each of its actions passes its guards.
 use Rattle.std.proofs.Common.{◌≡◌, ◌≢◌, ℕ, suc, ◌+◌, ◌<◌, ◌≤◌, Bool, true, false, not, ◌&&◌, cond, List, [], ◌∷◌, length, get_or, Some, None, refl, sym, ap, subst, ◌∙◌, inl, inr, arith}
-use Rattle.std.specs.Prelude.{All, Contains, filter, IsTrue, Option, slice_get, nat_le, nat_lt, if◌then◌else◌, ◌==◌}
+use Rattle.std.specs.Prelude.{All, Contains, filter, IsTrue, Option, slice_get, nat_le, nat_lt, ◌==◌}
 use Rattle.std.specs.Option.{option_map_or}
 use Rattle.std.specs.List.{list_all, list_any, range_with_len}
 use Rattle.std.proofs.lemmas.Bool.{cases_Bool, cases_eq, or_cases, or_left, or_right, and_from, and_parts, eq-eqb, eqb-true, le-leb, lt-ltb, both_ways, false_from_ne_true, not_from_false, cond-true, cond-false}
@@ -26,7 +26,7 @@ use Rattle.ion_chain.specs.Passing.{outward, leaving, left}
 use Rattle.ion_chain.specs.Transfer.{list_at}
 use Rattle.step_rules.specs.Setting.{SettingValue}
 use Rattle.step_rules.specs.ActionChannel.{passing, channel_for}
-use Rattle.step_rules.specs.Guards.{Passes, guard, first_broken, is_empty, is_slot, is_junction, is_count_of, is_among, split_guards, move_guards, cross_guards, merge_guards, is_able_for, are_among}
+use Rattle.step_rules.specs.Guards.{Passes, first_broken, is_empty, is_slot, is_junction, is_count_of, is_among, split_guards, move_guards, cross_guards, merge_guards, is_able_for, are_among}
 use Rattle.step_rules.specs.declared.action.Rule.{Rule}
 use Rattle.step_rules.specs.declared.action.Rule.TheVariants as rules
 use Rattle.step_rules.specs.Placement.{ion_of, place_of, reading_order, times}

@@ -60,18 +60,18 @@ there-third : (setting : SettingValue) (i j k : ℕ) → Contains (thirds settin
     ↔ ((k < ion_count setting) × (k ≢ i) × (k ≢ j))
 there-third setting i j k =
     let kept = Contains-filter (λ l. not (l == i) && not (l == j)) (ions_of setting) k in (
-  λ there.
-    let it = kept.0 there in
-    let parts = and_parts (not (k == i)) (not (k == j)) it.1 in
-    let not_i = eqb-false k i (not-true (k == i) parts.0) in
-    let not_j = eqb-false k j (not-true (k == j) parts.1) in
-    ((there-ion setting k).0 it.0, not_i, not_j),
-  λ it. kept.1 (
-    (there-ion setting k).1 it.0,
-    and_from (not (k == i)) (not (k == j)) (not_from_false (k == i) (ne_eqb k i it.1))
-        (not_from_false (k == j) (ne_eqb k j it.2)),
-  ),
-)
+      λ there.
+          let it = kept.0 there in
+          let parts = and_parts (not (k == i)) (not (k == j)) it.1 in
+          let not_i = eqb-false k i (not-true (k == i) parts.0) in
+          let not_j = eqb-false k j (not-true (k == j) parts.1) in
+          ((there-ion setting k).0 it.0, not_i, not_j),
+      λ it. kept.1 (
+        (there-ion setting k).1 it.0,
+        and_from (not (k == i)) (not (k == j)) (not_from_false (k == i) (ne_eqb k i it.1))
+            (not_from_false (k == j) (ne_eqb k j it.2)),
+      ),
+    )
 
 -- ---- pairs of ions
 
@@ -81,8 +81,8 @@ pub each_pair : (setting : SettingValue) (facts : Facts) (f : Cell → List Clai
 each_pair setting facts f = let each = AllHold-map facts f (pairs_in setting) in (
   λ all i j below known. each.0 all (cell i j) (in_pairs (ion_count setting) i j below known),
   λ law. each.1 (λ pair pair_in.
-    let it = (there-pair (ion_count setting) pair).0 pair_in in
-    law pair.row pair.col it.0 it.1),
+      let it = (there-pair (ion_count setting) pair).0 pair_in in
+      law pair.row pair.col it.0 it.1),
 )
 
 -- with each zone
@@ -94,26 +94,26 @@ each_pair_zone setting facts f = let each = nested facts f (zones_of setting) (�
   λ all i j z below known z_known. each.0 all z (cell i j) ((there-zone setting z).1 z_known)
       (in_pairs (ion_count setting) i j below known),
   λ law. each.1 (λ z pair z_in pair_in.
-    let it = (there-pair (ion_count setting) pair).0 pair_in in
-    law pair.row pair.col z it.0 it.1 ((there-zone setting z).0 z_in)),
+      let it = (there-pair (ion_count setting) pair).0 pair_in in
+      law pair.row pair.col z it.0 it.1 ((there-zone setting z).0 z_in)),
 )
 
 -- and with each third ion
 pub each_pair_zone_third : (setting : SettingValue) (facts : Facts) (f : ℕ → Cell → ℕ → List (List Claim))
     → AllHold facts
-        (flat_map (λ z. flat_map (λ pair. flat_map (f z pair) (thirds setting pair)) (pairs_in setting))
-        (zones_of setting))
+    (flat_map (λ z. flat_map (λ pair. flat_map (f z pair) (thirds setting pair)) (pairs_in setting))
+    (zones_of setting))
     ↔ ((i j k z : ℕ) → i < j → j < ion_count setting → z < length setting.trap.zones
     → k < ion_count setting → k ≢ i → k ≢ j → AllHold facts (f z (cell i j) k))
 each_pair_zone_third setting facts f =
     let each = each_pair_zone setting facts (λ z pair. flat_map (f z pair) (thirds setting pair)) in
     let inner = λ (i j z : ℕ). AllHold-flat_map facts (f z (cell i j)) (thirds setting (cell i j)) in (
       λ all i j k z below known z_known k_known not_i not_j.
-        (inner i j z).0 (each.0 all i j z below known z_known) k
-        ((there-third setting i j k).1 (k_known, not_i, not_j)),
+          (inner i j z).0 (each.0 all i j z below known z_known) k
+          ((there-third setting i j k).1 (k_known, not_i, not_j)),
       λ law. each.1 (λ i j z below known z_known. (inner i j z).1 (λ k k_in.
-        let it = (there-third setting i j k).0 k_in in
-        law i j k z below known z_known it.0 it.1 it.2)),
+          let it = (there-third setting i j k).0 k_in in
+          law i j k z below known z_known it.0 it.1 it.2)),
     )
 
 -- with each place
@@ -125,8 +125,8 @@ each_pair_place setting facts f = let each = nested facts f (places_of setting) 
   λ all i j p below known p_known. each.0 all p (cell i j) ((there-place setting p).1 p_known)
       (in_pairs (ion_count setting) i j below known),
   λ law. each.1 (λ p pair p_in pair_in.
-    let it = (there-pair (ion_count setting) pair).0 pair_in in
-    law pair.row pair.col p it.0 it.1 ((there-place setting p).0 p_in)),
+      let it = (there-pair (ion_count setting) pair).0 pair_in in
+      law pair.row pair.col p it.0 it.1 ((there-place setting p).0 p_in)),
 )
 
 -- ---- channels
@@ -149,11 +149,11 @@ pub each_channel_ion : (setting : SettingValue) (facts : Facts) (f : NumberedCha
     → SomeHolds facts (f (numbered c channel) i))
 each_channel_ion setting facts f =
     let each = nested_map facts f (numbered_channels setting) (λ c. ions_of setting) in (
-  λ all c channel i known within. each.0 all (numbered c channel) i
-      ((there-channel setting (numbered c channel)).1 known) ((there-ion setting i).1 within),
-  λ law. each.1 (λ c i c_in i_in.
-    law c.number c.channel i ((there-channel setting c).0 c_in) ((there-ion setting i).0 i_in)),
-)
+      λ all c channel i known within. each.0 all (numbered c channel) i
+          ((there-channel setting (numbered c channel)).1 known) ((there-ion setting i).1 within),
+      λ law. each.1 (λ c i c_in i_in.
+          law c.number c.channel i ((there-channel setting c).0 c_in) ((there-ion setting i).0 i_in)),
+    )
 
 -- of channels that pass a test
 pub each_channel_where : (setting : SettingValue) (facts : Facts) (test : Channel → Bool)
@@ -163,38 +163,38 @@ pub each_channel_where : (setting : SettingValue) (facts : Facts) (test : Channe
     → i < ion_count setting → SomeHolds facts (f (numbered c channel) i))
 each_channel_where setting facts test f =
     let each = nested_map facts f (channels_where test setting) (λ c. ions_of setting) in (
-  λ all c channel i known passes within.
-    each.0 all (numbered c channel) i
-        ((there-channel_where setting test (numbered c channel)).1 (known, passes))
-        ((there-ion setting i).1 within),
-  λ law. each.1 (λ c i c_in i_in.
-    let it = (there-channel_where setting test c).0 c_in in
-    law c.number c.channel i it.0 it.1 ((there-ion setting i).0 i_in)),
-)
+      λ all c channel i known passes within.
+          each.0 all (numbered c channel) i
+          ((there-channel_where setting test (numbered c channel)).1 (known, passes))
+          ((there-ion setting i).1 within),
+      λ law. each.1 (λ c i c_in i_in.
+          let it = (there-channel_where setting test c).0 c_in in
+          law c.number c.channel i it.0 it.1 ((there-ion setting i).0 i_in)),
+    )
 
 -- and with each two ions
 pub each_channel_two : (setting : SettingValue) (facts : Facts) (test : Channel → Bool)
     (f : NumberedChannel → ℕ → ℕ → List Claim)
     → AllHold facts
-        (flat_map (λ c. flat_map (λ i. map (f c i) (others setting i)) (ions_of setting))
-        (channels_where test setting))
+    (flat_map (λ c. flat_map (λ i. map (f c i) (others setting i)) (ions_of setting))
+    (channels_where test setting))
     ↔ ((c : ℕ) (channel : Channel) (i j : ℕ) → IsChannel setting c channel → test channel ≡ true
     → i < ion_count setting → j < ion_count setting → j ≢ i
-      → SomeHolds facts (f (numbered c channel) i j))
+    → SomeHolds facts (f (numbered c channel) i j))
 each_channel_two setting facts test f =
     let each = nested facts (λ c i. map (f c i) (others setting i)) (channels_where test setting)
-        (λ c. ions_of setting) in
+    (λ c. ions_of setting) in
     let inner = λ (c : NumberedChannel) (i : ℕ). AllHold-map facts (f c i) (others setting i) in (
       λ all c channel i j known passes i_known j_known apart.
-        (inner (numbered c channel) i).0
-        (each.0 all (numbered c channel) i
-        ((there-channel_where setting test (numbered c channel)).1 (known, passes))
-        ((there-ion setting i).1 i_known))
-        j ((there-other setting i j).1 (j_known, apart)),
+          (inner (numbered c channel) i).0
+          (each.0 all (numbered c channel) i
+          ((there-channel_where setting test (numbered c channel)).1 (known, passes))
+          ((there-ion setting i).1 i_known))
+          j ((there-other setting i j).1 (j_known, apart)),
       λ law. each.1 (λ c i c_in i_in. (inner c i).1 (λ j j_in.
-        let it = (there-channel_where setting test c).0 c_in in
-        let other = (there-other setting i j).0 j_in in
-        law c.number c.channel i j it.0 it.1 ((there-ion setting i).0 i_in) other.0 other.1)),
+          let it = (there-channel_where setting test c).0 c_in in
+          let other = (there-other setting i j).0 j_in in
+          law c.number c.channel i j it.0 it.1 ((there-ion setting i).0 i_in) other.0 other.1)),
     )
 
 -- with each pair
@@ -205,13 +205,13 @@ pub each_channel_pair : (setting : SettingValue) (facts : Facts)
     → AllHold facts (f (numbered c channel) (cell i j)))
 each_channel_pair setting facts f =
     let each = nested facts f (numbered_channels setting) (λ c. pairs_in setting) in (
-  λ all i j c channel below known c_known.
-    each.0 all (numbered c channel) (cell i j) ((there-channel setting (numbered c channel)).1 c_known)
-        (in_pairs (ion_count setting) i j below known),
-  λ law. each.1 (λ c pair c_in pair_in.
-    let it = (there-pair (ion_count setting) pair).0 pair_in in
-    law pair.row pair.col c.number c.channel it.0 it.1 ((there-channel setting c).0 c_in)),
-)
+      λ all i j c channel below known c_known.
+          each.0 all (numbered c channel) (cell i j) ((there-channel setting (numbered c channel)).1 c_known)
+          (in_pairs (ion_count setting) i j below known),
+      λ law. each.1 (λ c pair c_in pair_in.
+          let it = (there-pair (ion_count setting) pair).0 pair_in in
+          law pair.row pair.col c.number c.channel it.0 it.1 ((there-channel setting c).0 c_in)),
+    )
 
 -- ---- operations
 
@@ -229,19 +229,19 @@ pub each_operation_zone : (setting : SettingValue) (facts : Facts) (f : ℕ → 
     ↔ ((g z : ℕ) → IsActivity setting (operation g z) → AllHold facts (f g z))
 each_operation_zone setting facts f =
     let each = nested facts f (performed setting.circuit) (able_zones setting) in (
-  λ all g z is. each.0 all g z ((there-performed setting.circuit g).1 is.0)
-      ((there-able_zone setting g z).1 (is.2, is.1)),
-  λ law. each.1 (λ g z g_in z_in.
-    let it = (there-able_zone setting g z).0 z_in in
-    law g z ((there-performed setting.circuit g).0 g_in, it.1, it.0)),
-)
+      λ all g z is. each.0 all g z ((there-performed setting.circuit g).1 is.0)
+          ((there-able_zone setting g z).1 (is.2, is.1)),
+      λ law. each.1 (λ g z g_in z_in.
+          let it = (there-able_zone setting g z).0 z_in in
+          law g z ((there-performed setting.circuit g).0 g_in, it.1, it.0)),
+    )
 
 act_has : (setting : SettingValue) (act : Cell) → Contains (acts_of setting) act
     → IsActivity setting (operation act.row act.col)
 act_has setting act there =
     let row =
-        (Contains-flat_map (λ g. map (cell g) (able_zones setting g))
-        (performed setting.circuit) act).0 there in
+    (Contains-flat_map (λ g. map (cell g) (able_zones setting g))
+    (performed setting.circuit) act).0 there in
     let col = (Contains-map (cell row.member) (able_zones setting row.member) act).0 row.in_image in
     let able = (there-able_zone setting row.member col.member).0 col.there in
     rw (← col.is) ((there-performed setting.circuit row.member).0 row.there, able.1, able.0)
@@ -270,10 +270,10 @@ order_has : (circuit : CircuitValue) (order : Cell) → Contains (orders_of circ
     → IsOrder circuit order.row order.col
 order_has circuit order there =
     let row =
-        (Contains-flat_map (λ g. map (cell g) (forced_before circuit g)) (performed circuit) order).0 there in
+    (Contains-flat_map (λ g. map (cell g) (forced_before circuit g)) (performed circuit) order).0 there in
     let col = (Contains-map (cell row.member) (forced_before circuit row.member) order).0 row.in_image in
     let forced =
-        (Contains-filter (λ h. is_forced circuit h row.member) (performed circuit) col.member).0 col.there in
+    (Contains-filter (λ h. is_forced circuit h row.member) (performed circuit) col.member).0 col.there in
     let first = (there-performed circuit row.member).0 row.there in
     let second = (there-performed circuit col.member).0 forced.0 in
     rw (← col.is) (first, second, forced.1)
@@ -293,6 +293,6 @@ pub each_order : (circuit : CircuitValue) (facts : Facts) (f : Cell → List Cla
 each_order circuit facts f = let each = AllHold-map facts f (orders_of circuit) in (
   λ all g h g_is h_is forced. each.0 all (cell g h) (in_orders circuit g h (g_is, h_is, forced)),
   λ law. each.1 (λ order order_in.
-    let it = order_has circuit order order_in in
-    law order.row order.col it.0 it.1 it.2),
+      let it = order_has circuit order order_in in
+      law order.row order.col it.0 it.1 it.2),
 )

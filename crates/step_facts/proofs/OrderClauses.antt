@@ -24,8 +24,8 @@ pub swaps_in_zone_iff : (setting : SettingValue) (facts : Facts) (r t : ℕ)
 swaps_in_zone_iff setting facts r t =
     let each = each_pair_zone setting facts (swap_in_zone r t) in (
       λ all i j z below known z_known swapped.
-        let both = each.0 all i j z below known z_known in
-        (last_one (given both.0 swapped), last_one (given both.1.0 swapped)),
+          let both = each.0 all i j z below known z_known in
+          (last_one (given both.0 swapped), last_one (given both.1.0 swapped)),
       λ law. each.1 (λ i j z below known z_known. (
         give _ (λ swapped. inl (law i j z below known z_known swapped).0),
         (give _ (λ swapped. inl (law i j z below known z_known swapped).1), tt),
@@ -37,19 +37,22 @@ pub swaps_of_neighbours_iff : (setting : SettingValue) (facts : Facts) (r t : �
 swaps_of_neighbours_iff setting facts r t =
     let each = each_pair_zone_third setting facts (none_between r t) in (
       λ all i j k z below known z_known k_known not_i not_j swapped there.
-        let both = each.0 all i j k z below known z_known k_known not_i not_j in (
-          λ between. given_claim facts (nearer k j r)
-              (given_claim facts (nearer i k r) (given (given both.0 swapped) there) between.0) between.1,
-          λ between. given_claim facts (nearer k i r)
-              (given_claim facts (nearer j k r) (given (given both.1.0 swapped) there) between.0) between.1,
-        ),
+          let both = each.0 all i j k z below known z_known k_known not_i not_j in (
+            λ between. given_claim facts (nearer k j r)
+                (given_claim facts (nearer i k r) (given (given both.0 swapped) there) between.0) between.1,
+            λ between. given_claim facts (nearer k i r)
+                (given_claim facts (nearer j k r) (given (given both.1.0 swapped) there) between.0) between.1,
+          ),
       λ law. each.1 (λ i j k z below known z_known k_known not_i not_j. (
         give _ (λ swapped. give _ (λ there.
-          give_claim facts (nearer i k r) (λ first. give_claim facts (nearer k j r) (λ second.
-          (law i j k z below known z_known k_known not_i not_j swapped there).0 (first, second))))),
-        (give _ (λ swapped. give _ (λ there.
-          give_claim facts (nearer j k r) (λ first. give_claim facts (nearer k i r) (λ second.
-          (law i j k z below known z_known k_known not_i not_j swapped there).1 (first, second))))), tt),
+            give_claim facts (nearer i k r) (λ first. give_claim facts (nearer k j r) (λ second.
+            (law i j k z below known z_known k_known not_i not_j swapped there).0 (first, second))))),
+        (
+          give _ (λ swapped. give _ (λ there.
+              give_claim facts (nearer j k r) (λ first. give_claim facts (nearer k i r) (λ second.
+              (law i j k z below known z_known k_known not_i not_j swapped there).1 (first, second))))),
+          tt,
+        ),
       )),
     )
 
@@ -76,8 +79,8 @@ swaps_turn_iff setting facts r t =
     let each = each_pair_zone setting facts (swap_turns r t) in
     let is = λ (i j : ℕ). turned (facts (ord_item i j r)) (facts (ord_item i j t)) in (
       λ all i j z below known z_known swapped.
-        let both = each.0 all i j z below known z_known in
-        (is i j).0 (given both.0 swapped, given both.1.0 swapped),
+          let both = each.0 all i j z below known z_known in
+          (is i j).0 (given both.0 swapped, given both.1.0 swapped),
       λ law. each.1 (λ i j z below known z_known. (
         give _ (λ swapped. ((is i j).1 (law i j z below known z_known swapped)).0),
         (give _ (λ swapped. ((is i j).1 (law i j z below known z_known swapped)).1), tt),
@@ -97,12 +100,12 @@ staying setting facts r t i j p rest = elim (cases_Bool (is_zone setting.trap p)
     λ some at_i at_j stays_i stays_j unswapped. unless
         (given (given (given (given some at_i) at_j) stays_i) stays_j) (unswapped refl),
     λ law. give _ (λ at_i. give _ (λ at_j. give _ (λ stays_i. give _ (λ stays_j. or_else _ (λ unswapped.
-      law at_i at_j stays_i stays_j (λ is. unswapped)))))),
+        law at_i at_j stays_i stays_j (λ is. unswapped)))))),
   )
   | inr slot ↦ rw slot (
     λ some at_i at_j stays_i stays_j unswapped. given (given (given (given some at_i) at_j) stays_i) stays_j,
     λ law. give _ (λ at_i. give _ (λ at_j. give _ (λ stays_i. give _ (λ stays_j.
-      law at_i at_j stays_i stays_j (λ never. absurd cc))))),
+        law at_i at_j stays_i stays_j (λ never. absurd cc))))),
   )
 ]
 
@@ -111,22 +114,26 @@ pub stayers_keep_order_iff : (setting : SettingValue) (facts : Facts) (r t : ℕ
 stayers_keep_order_iff setting facts r t =
     let each = each_pair_place setting facts (λ p pair. keeps_order (both_stay setting r t p pair) r t pair) in
     let first = λ (i j p : ℕ). staying setting facts r t i j p
-        (not_so (ord_item i j r) ∷ so (ord_item i j t) ∷ []) in
+    (not_so (ord_item i j r) ∷ so (ord_item i j t) ∷ []) in
     let second = λ (i j p : ℕ). staying setting facts r t i j p
-        (so (ord_item i j r) ∷ not_so (ord_item i j t) ∷ []) in
+    (so (ord_item i j r) ∷ not_so (ord_item i j t) ∷ []) in
     let is = λ (i j : ℕ). same (facts (ord_item i j r)) (facts (ord_item i j t)) in (
       λ all i j p below known p_known at_i at_j stays_i stays_j unswapped.
-        let both = each.0 all i j p below known p_known in
-        (is i j).0
-        ((first i j p).0 both.0 at_i at_j stays_i stays_j unswapped,
-        (second i j p).0 both.1.0 at_i at_j stays_i stays_j unswapped),
+          let both = each.0 all i j p below known p_known in
+          (is i j).0 (
+            (first i j p).0 both.0 at_i at_j stays_i stays_j unswapped,
+            (second i j p).0 both.1.0 at_i at_j stays_i stays_j unswapped,
+          ),
       λ law. each.1 (λ i j p below known p_known. (
         (first i j p).1
-        (λ at_i at_j stays_i stays_j unswapped.
-        ((is i j).1 (law i j p below known p_known at_i at_j stays_i stays_j unswapped)).0),
-        ((second i j p).1
-        (λ at_i at_j stays_i stays_j unswapped.
-        ((is i j).1 (law i j p below known p_known at_i at_j stays_i stays_j unswapped)).1), tt),
+            (λ at_i at_j stays_i stays_j unswapped.
+            ((is i j).1 (law i j p below known p_known at_i at_j stays_i stays_j unswapped)).0),
+        (
+          (second i j p).1
+              (λ at_i at_j stays_i stays_j unswapped.
+              ((is i j).1 (law i j p below known p_known at_i at_j stays_i stays_j unswapped)).1),
+          tt,
+        ),
       )),
     )
 
@@ -134,9 +141,9 @@ stayers_keep_order_iff setting facts r t =
 passing_pair : (facts : Facts) (r t i j c : ℕ) (channel : Channel)
     → AllHold facts (pair_passes r t (numbered c channel) (cell i j))
     ↔ (PassesBy facts i c t → PassesBy facts j c t
-      → facts (ord_item i j t)
-      ≡ (if same_end channel.from_end channel.to_end then not (facts (ord_item i j r))
-      else facts (ord_item i j r)))
+    → facts (ord_item i j t)
+    ≡ (if same_end channel.from_end channel.to_end then not (facts (ord_item i j r))
+    else facts (ord_item i j r)))
 passing_pair facts r t i j c channel = elim (cases_Bool (same_end channel.from_end channel.to_end)) [
   | inl turns ↦ let is = turned (facts (ord_item i j r)) (facts (ord_item i j t)) in rw turns (
     λ both passes_i passes_j. is.0
@@ -172,9 +179,9 @@ pub merges_at_the_end_iff : (setting : SettingValue) (facts : Facts) (r t : ℕ)
 merges_at_the_end_iff setting facts r t =
     let each = each_channel_two setting facts is_merge_channel (merges_outside r t) in (
       λ all c channel i j known merges i_known j_known apart passes there.
-        last_one (given (given (each.0 all c channel j i known merges j_known i_known apart) passes) there),
+          last_one (given (given (each.0 all c channel j i known merges j_known i_known apart) passes) there),
       λ law. each.1 (λ c channel j i known merges j_known i_known apart. give _ (λ passes. give _ (λ there.
-        inl (law c channel i j known merges i_known j_known apart passes there)))),
+          inl (law c channel i j known merges i_known j_known apart passes there)))),
     )
 
 -- ---- operations
@@ -187,12 +194,12 @@ ions_in_zone_iff setting facts r t =
     let inner = λ (g z : ℕ). AllHold-map facts (clause g z) (ions_of_op setting g) in
     let ion = λ (g i : ℕ). Contains-filter (is_ion_of setting g) (ions_of setting) i in (
       λ all g z i is known of_op performs.
-        last_one (given
-            ((inner g z).0 (each.0 all g z is) i
-            ((ion g i).1 ((there-ion setting i).1 known, of_op))) performs),
+          last_one (given
+          ((inner g z).0 (each.0 all g z is) i
+          ((ion g i).1 ((there-ion setting i).1 known, of_op))) performs),
       λ law. each.1 (λ g z is. (inner g z).1 (λ i i_in. give _ (λ performs.
-        let it = (ion g i).0 i_in in
-        inl (law g z i is ((there-ion setting i).0 it.0) it.1 performs)))),
+          let it = (ion g i).0 i_in in
+          inl (law g z i is ((there-ion setting i).0 it.0) it.1 performs)))),
     )
 
 pub acts_do_iff : (setting : SettingValue) (facts : Facts) (r t : ℕ) → AllHold facts (acts_do setting r t)
@@ -200,8 +207,8 @@ pub acts_do_iff : (setting : SettingValue) (facts : Facts) (r t : ℕ) → AllHo
 acts_do_iff setting facts r t =
     let each = each_act setting facts (act_does r t) in (
       λ all g z is performs.
-        let both = each.0 all g z is in
-        (last_false (given both.0 performs), last_one (given both.1.0 performs)),
+          let both = each.0 all g z is in
+          (last_false (given both.0 performs), last_one (given both.1.0 performs)),
       λ law. each.1 (λ g z is. (
         give _ (λ performs. inl (not_from_false (facts (done_item g r)) (law g z is performs).0)),
         (give _ (λ performs. inl (law g z is performs).1), tt),
@@ -214,12 +221,16 @@ performed_iff : (setting : SettingValue) (facts : Facts) (g t : ℕ) → IsTrue 
 performed_iff setting facts g t is =
     let some = SomeHolds-map facts (λ z. act_item g z t) (able_zones setting g) in (
       λ holds.
-        let it = some.0 holds in
-        let able = (there-able_zone setting g it.member).0 it.there in
-        record { zone = it.member; able = (is, able.1, able.0); performs = it.is },
+          let it = some.0 holds in
+          let able = (there-able_zone setting g it.member).0 it.there in
+          record { zone = it.member; able = (is, able.1, able.0); performs = it.is },
       λ it. some.1
-          (record { member = it.zone; there = (there-able_zone setting g it.zone).1
-          (it.able.2, it.able.1); is = it.performs }),
+          (record {
+            member = it.zone;
+            there = (there-able_zone setting g it.zone).1
+                (it.able.2, it.able.1);
+            is = it.performs;
+          }),
     )
 
 pub all_done_by_acts_iff : (setting : SettingValue) (facts : Facts) (r t : ℕ)
@@ -227,9 +238,11 @@ pub all_done_by_acts_iff : (setting : SettingValue) (facts : Facts) (r t : ℕ)
 all_done_by_acts_iff setting facts r t =
     let each = AllHold-flat_map facts (done_by_acts setting r t) (performed setting.circuit) in (
       λ all g is.
-        let both = each.0 all g ((there-performed setting.circuit g).1 is) in
-        (λ done. last_one (given both.0 done), λ done. second_way (performed_iff setting facts g t is).0
-        (given both.1.0 done)),
+          let both = each.0 all g ((there-performed setting.circuit g).1 is) in (
+            λ done. last_one (given both.0 done),
+            λ done. second_way (performed_iff setting facts g t is).0
+                (given both.1.0 done),
+          ),
       λ law. each.1 (λ g g_in. let is = (there-performed setting.circuit g).0 g_in in (
         give _ (λ done. inl ((law g is).0 done)),
         (give _ (λ done. second_way (performed_iff setting facts g t is).1 ((law g is).1 done)), tt),
@@ -240,7 +253,7 @@ pub done_in_order_iff : (setting : SettingValue) (facts : Facts) (r t : ℕ)
     → AllHold facts (done_in_order setting r t) ↔ DoneInOrder setting facts r t
 done_in_order_iff setting facts r t =
     let each = each_order setting.circuit facts
-        (λ order. not_so (done_item order.row t) ∷ so (done_item order.col r) ∷ []) in (
+    (λ order. not_so (done_item order.row t) ∷ so (done_item order.col r) ∷ []) in (
       λ all g h g_is h_is forced done. last_one (given (each.0 all g h g_is h_is forced) done),
       λ law. each.1 (λ g h g_is h_is forced. give _ (λ done. inl (law g h g_is h_is forced done))),
     )

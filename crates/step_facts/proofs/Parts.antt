@@ -70,13 +70,15 @@ passing_iff setting facts r t =
     let h = use_empties_slot_iff setting facts r t in
     let i = splits_take_the_front_iff setting facts r t in
     via (AllHold-joined facts (leaves_from_source setting r t) (
-      leaves_to_target setting r t ∷ leaves_use_channel setting r t ∷ all_stay_or_leave setting r t ∷
-      all_stayed_or_came setting r t ∷ use_passes_some setting r t ∷ use_needs_empty_slot setting r t ∷
-      use_empties_slot setting r t ∷ splits_take_the_front setting r t ∷ [])) (
+    leaves_to_target setting r t ∷ leaves_use_channel setting r t ∷ all_stay_or_leave setting r t ∷
+    all_stayed_or_came setting r t ∷ use_passes_some setting r t ∷ use_needs_empty_slot setting r t ∷
+    use_empties_slot setting r t ∷ splits_take_the_front setting r t ∷ [])) (
       λ (ha, (hb, (hc, (hd, (he, (hf, (hg, (hh, (hi, _))))))))).
           (a.0 ha, b.0 hb, c.0 hc, d.0 hd, e.0 he, f.0 hf, g.0 hg, h.0 hh, i.0 hi),
-      λ is. (a.1 is.0,
-          (b.1 is.1, (c.1 is.2, (d.1 is.3, (e.1 is.4, (f.1 is.5, (g.1 is.6, (h.1 is.7, (i.1 is.8, tt))))))))),
+      λ is. (
+        a.1 is.0,
+        (b.1 is.1, (c.1 is.2, (d.1 is.3, (e.1 is.4, (f.1 is.5, (g.1 is.6, (h.1 is.7, (i.1 is.8, tt)))))))),
+      ),
     )
 
 -- of the order of ions
@@ -96,8 +98,8 @@ orders_iff setting facts r t =
     let e = chains_keep_order_iff setting facts r t in
     let f = merges_at_the_end_iff setting facts r t in
     via (AllHold-joined facts (swaps_in_zone setting r t) (
-      swaps_of_neighbours setting r t ∷ swaps_turn setting r t ∷ stayers_keep_order setting r t ∷
-      chains_keep_order setting r t ∷ merges_at_the_end setting r t ∷ [])) (
+    swaps_of_neighbours setting r t ∷ swaps_turn setting r t ∷ stayers_keep_order setting r t ∷
+    chains_keep_order setting r t ∷ merges_at_the_end setting r t ∷ [])) (
       λ (ha, (hb, (hc, (hd, (he, (hf, _)))))). (a.0 ha, b.0 hb, c.0 hc, d.0 hd, e.0 he, f.0 hf),
       λ is. (a.1 is.0, (b.1 is.1, (c.1 is.2, (d.1 is.3, (e.1 is.4, (f.1 is.5, tt)))))),
     )
@@ -116,7 +118,7 @@ operations_iff setting facts r t =
     let c = all_done_by_acts_iff setting facts r t in
     let d = done_in_order_iff setting facts r t in
     via (AllHold-joined facts (ions_in_zone setting r t) (
-      acts_do setting r t ∷ all_done_by_acts setting r t ∷ done_in_order setting r t ∷ [])) (
+    acts_do setting r t ∷ all_done_by_acts setting r t ∷ done_in_order setting r t ∷ [])) (
       λ (ha, (hb, (hc, (hd, _)))). (a.0 ha, b.0 hb, c.0 hc, d.0 hd),
       λ is. (a.1 is.0, (b.1 is.1, (c.1 is.2, (d.1 is.3, tt)))),
     )
@@ -126,8 +128,8 @@ step_has : (setting : SettingValue) (facts : Facts) (r t : ℕ) → StepHolds se
 step_has setting facts r t holds =
     let places = (AreBounded-append facts (one_places setting t) (few_ions_each setting t)).0 holds.places in
     let activities =
-        (AreBounded-append facts (one_activity_each setting t)
-        (one_crossing_each setting t)).0 holds.activities in
+    (AreBounded-append facts (one_activity_each setting t)
+    (one_crossing_each setting t)).0 holds.activities in
     let passing = (passing_iff setting facts r t).0 holds.passing in
     let orders = (orders_iff setting facts r t).0 holds.orders in
     let operations = (operations_iff setting facts r t).0 holds.operations in
@@ -161,13 +163,22 @@ has_step : (setting : SettingValue) (facts : Facts) (r t : ℕ) → IsStep setti
     → StepHolds setting facts r t
 has_step setting facts r t is = record {
   places = (AreBounded-append facts (one_places setting t) (few_ions_each setting t)).1
-    ((one_places_iff setting facts t).1 is.one_place, (few_ions_each_iff setting facts t).1 is.few_ions);
+      ((one_places_iff setting facts t).1 is.one_place, (few_ions_each_iff setting facts t).1 is.few_ions);
   passing = (passing_iff setting facts r t).1 (
-    is.from_source, is.to_target, is.use_channel, is.stays, is.stayed, is.some_passes, is.empty_slot, is.whole_chain, is.front,
+    is.from_source,
+    is.to_target,
+    is.use_channel,
+    is.stays,
+    is.stayed,
+    is.some_passes,
+    is.empty_slot,
+    is.whole_chain,
+    is.front,
   );
-  activities = (AreBounded-append facts (one_activity_each setting t) (one_crossing_each setting t)).1
-    ((one_activity_each_iff setting facts t).1 is.one_activity,
-    (one_crossing_each_iff setting facts t).1 is.one_crossing);
+  activities = (AreBounded-append facts (one_activity_each setting t) (one_crossing_each setting t)).1 (
+    (one_activity_each_iff setting facts t).1 is.one_activity,
+    (one_crossing_each_iff setting facts t).1 is.one_crossing,
+  );
   orders = (orders_iff setting facts r t).1
       (is.swap_in_zone, is.swap_neighbours, is.swap_turns, is.stayers, is.passers, is.merges);
   operations = (operations_iff setting facts r t).1 (is.ions_in_zone, is.once, is.done, is.in_order);

@@ -1,5 +1,5 @@
 -- What the guards say that an action of a legal step has passed.
-use Rattle.std.proofs.Common.{◌≡◌, ℕ, ◌-◌, ◌≤◌, Bool, true, false, not, ◌&&◌, cond, List, [], ◌∷◌, length, Some, None, refl, sym, ap, subst, ◌∙◌, inl, inr, arith}
+use Rattle.std.proofs.Common.{◌≡◌, ℕ, ◌≤◌, Bool, true, false, not, ◌&&◌, cond, List, [], ◌∷◌, length, Some, None, refl, sym, ap, subst, ◌∙◌, inl, inr, arith}
 use Rattle.std.specs.Prelude.{Option, option_map, nat_le, slice_get, ◌==◌}
 use Rattle.std.specs.Option.{option_map_or}
 use Rattle.std.specs.List.{list_all, list_any}
@@ -24,7 +24,7 @@ use Rattle.step_rules.specs.declared.action.Rule.TheVariants as rules
 use Rattle.step_rules.specs.Setting.{SettingValue}
 use Rattle.step_rules.specs.Placement.{ion_of}
 use Rattle.step_rules.specs.ActionChannel.{channel_for, passing}
-use Rattle.step_rules.specs.Guards.{Passes, guard, first_broken, is_empty, is_count_of, is_slot, is_junction, is_among, are_among, is_able_for, split_guards, move_guards, cross_guards, merge_guards}
+use Rattle.step_rules.specs.Guards.{Passes, first_broken, is_empty, is_count_of, is_slot, is_junction, is_among, are_among, is_able_for, split_guards, move_guards, cross_guards, merge_guards}
 use Rattle.step_vars.specs.Lists.{is_there, is_ion_of}
 
 -- one guard is passed, and the rest are

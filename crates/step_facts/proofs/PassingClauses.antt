@@ -46,7 +46,7 @@ pub leaves_from_source_iff : (setting : SettingValue) (facts : Facts) (r t : ℕ
     → AllHold facts (leaves_from_source setting r t) ↔ PassersWereAtSource setting facts r t
 leaves_from_source_iff setting facts r t =
     let each = each_channel_ion setting facts
-        (λ c i. not_so (leave_item i c.number t) ∷ so (at_item i c.channel.from.0 r) ∷ []) in (
+    (λ c i. not_so (leave_item i c.number t) ∷ so (at_item i c.channel.from.0 r) ∷ []) in (
       λ all c channel i known within passes. last_one (given (each.0 all c channel i known within) passes),
       λ law. each.1 (λ c channel i known within. give _ (λ passes. inl (law c channel i known within passes))),
     )
@@ -55,7 +55,7 @@ pub leaves_to_target_iff : (setting : SettingValue) (facts : Facts) (r t : ℕ)
     → AllHold facts (leaves_to_target setting r t) ↔ PassersAreAtTarget setting facts r t
 leaves_to_target_iff setting facts r t =
     let each = each_channel_ion setting facts
-        (λ c i. not_so (leave_item i c.number t) ∷ so (at_item i c.channel.to.0 t) ∷ []) in (
+    (λ c i. not_so (leave_item i c.number t) ∷ so (at_item i c.channel.to.0 t) ∷ []) in (
       λ all c channel i known within passes. last_one (given (each.0 all c channel i known within) passes),
       λ law. each.1 (λ c channel i known within. give _ (λ passes. inl (law c channel i known within passes))),
     )
@@ -64,7 +64,7 @@ pub leaves_use_channel_iff : (setting : SettingValue) (facts : Facts) (r t : ℕ
     → AllHold facts (leaves_use_channel setting r t) ↔ PassersUseChannel setting facts r t
 leaves_use_channel_iff setting facts r t =
     let each = each_channel_ion setting facts
-        (λ c i. not_so (leave_item i c.number t) ∷ so (use_item c.number t) ∷ []) in (
+    (λ c i. not_so (leave_item i c.number t) ∷ so (use_item c.number t) ∷ []) in (
       λ all c channel i known within passes. last_one (given (each.0 all c channel i known within) passes),
       λ law. each.1 (λ c channel i known within. give _ (λ passes. inl (law c channel i known within passes))),
     )
@@ -72,22 +72,32 @@ leaves_use_channel_iff setting facts r t =
 -- the ion passes by one of the channels that have place p at that end
 passes_some_iff : (setting : SettingValue) (facts : Facts) (i t : ℕ) (ends : Channel → ℕ) (p : ℕ)
     → SomeHolds facts
-        (map (λ c. so (leave_item i c t))
-            (numbers_where (λ (channel : Channel). ends channel == p) setting))
-            ↔ PassesSome setting facts i t ends p
+    (map (λ c. so (leave_item i c t))
+    (numbers_where (λ (channel : Channel). ends channel == p) setting))
+    ↔ PassesSome setting facts i t ends p
 passes_some_iff setting facts i t ends p =
     let test = λ (channel : Channel). ends channel == p in
     let some = SomeHolds-map facts (λ c. leave_item i c t) (numbers_where test setting) in (
       λ holds.
-        let it = some.0 holds in
-        let channel = (there-number_where setting test it.member).0 it.there in
-        record { number = it.member; channel = channel.channel; there = channel.there; at_place = eqb-true
-            (ends channel.channel) p channel.passes; passes = it.is },
+          let it = some.0 holds in
+          let channel = (there-number_where setting test it.member).0 it.there in
+          record {
+            number = it.member;
+            channel = channel.channel;
+            there = channel.there;
+            at_place = eqb-true
+                (ends channel.channel) p channel.passes;
+            passes = it.is;
+          },
       λ it. some.1 (record {
         member = it.number;
         there = (there-number_where setting test it.number).1
-            (record { channel = it.channel; there = it.there; passes = eq-eqb
-            (ends it.channel) p it.at_place });
+            (record {
+              channel = it.channel;
+              there = it.there;
+              passes = eq-eqb
+                  (ends it.channel) p it.at_place;
+            });
         is = it.passes;
       }),
     )
@@ -120,32 +130,32 @@ use_passes_some_iff setting facts r t =
     let each = each_channel setting facts (some_passes setting t) in
     let some = λ (c : ℕ). SomeHolds-map facts (λ i. leave_item i c t) (ions_of setting) in (
       λ all c channel known used.
-        let it = (some c).0 (given (each.0 all c channel known) used) in
-        record { ion = it.member; there = (there-ion setting it.member).0 it.there; passes = it.is },
+          let it = (some c).0 (given (each.0 all c channel known) used) in
+          record { ion = it.member; there = (there-ion setting it.member).0 it.there; passes = it.is },
       λ law. each.1 (λ c channel known. give _ (λ used.
-        let it = law c channel known used in
-        (some c).1
-        (record { member = it.ion; there = (there-ion setting it.ion).1 it.there; is = it.passes }))),
+          let it = law c channel known used in
+          (some c).1
+          (record { member = it.ion; there = (there-ion setting it.ion).1 it.there; is = it.passes }))),
     )
 
 pub use_needs_empty_slot_iff : (setting : SettingValue) (facts : Facts) (r t : ℕ)
     → AllHold facts (use_needs_empty_slot setting r t) ↔ UseNeedsEmptySlot setting facts r t
 use_needs_empty_slot_iff setting facts r t =
     let each = each_channel_where setting facts (into_slot setting)
-        (λ c i. not_so (use_item c.number t) ∷ not_so (at_item i c.channel.to.0 r) ∷ []) in (
+    (λ c i. not_so (use_item c.number t) ∷ not_so (at_item i c.channel.to.0 r) ∷ []) in (
       λ all c channel i known within slot used. last_false
           (given (each.0 all c channel i known (not_from_false _ slot) within) used),
       λ law. each.1 (λ c channel i known slot within. give _ (λ used.
-        inl (not_from_false (facts (at_item i channel.to.0 r))
-            (law c channel i known within (not-true _ slot) used)))),
+          inl (not_from_false (facts (at_item i channel.to.0 r))
+          (law c channel i known within (not-true _ slot) used)))),
     )
 
 pub use_empties_slot_iff : (setting : SettingValue) (facts : Facts) (r t : ℕ)
     → AllHold facts (use_empties_slot setting r t) ↔ UseEmptiesSlot setting facts r t
 use_empties_slot_iff setting facts r t =
     let each = each_channel_where setting facts (from_slot setting)
-        (λ c i. not_so (use_item c.number t) ∷ not_so (at_item i c.channel.from.0 r)
-            ∷ so (leave_item i c.number t) ∷ []) in (
+    (λ c i. not_so (use_item c.number t) ∷ not_so (at_item i c.channel.from.0 r)
+    ∷ so (leave_item i c.number t) ∷ []) in (
       λ all c channel i known within slot used there. last_one
           (given (given (each.0 all c channel i known (not_from_false _ slot) within) used) there),
       λ law. each.1
@@ -158,9 +168,9 @@ pub splits_take_the_front_iff : (setting : SettingValue) (facts : Facts) (r t : 
 splits_take_the_front_iff setting facts r t =
     let each = each_channel_two setting facts is_split_channel (goes_along r t) in (
       λ all c channel i j known splits i_known j_known apart passes there nearer.
-        last_one (given_claim facts (nearer_to channel.from_end j i r)
-            (given (given (each.0 all c channel i j known splits i_known j_known apart) passes) there) nearer),
+          last_one (given_claim facts (nearer_to channel.from_end j i r)
+          (given (given (each.0 all c channel i j known splits i_known j_known apart) passes) there) nearer),
       λ law. each.1 (λ c channel i j known splits i_known j_known apart. give _ (λ passes. give _ (λ there.
-        give_claim facts (nearer_to channel.from_end j i r)
-            (λ nearer. inl (law c channel i j known splits i_known j_known apart passes there nearer))))),
+          give_claim facts (nearer_to channel.from_end j i r)
+          (λ nearer. inl (law c channel i j known splits i_known j_known apart passes there nearer))))),
     )

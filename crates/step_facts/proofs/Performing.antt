@@ -58,7 +58,7 @@ some-ion setting g sound is =
       (ion_of setting.placement qubit).0,
       ion-known setting qubit sound (All-contains (λ (q : Qubit). q.0 < qubit_count setting.circuit) (qubits_of op) qubit known.qubits first.1),
       ap (λ (o : Option Op). option_map_or (λ (it : Op). list_any (λ (q : Qubit). (ion_of setting.placement qubit).0 == (ion_of setting.placement q).0) (qubits_of it)) o false) found.1
-      ∙ any_same setting.placement (qubits_of op) qubit first.1,
+          ∙ any_same setting.placement (qubits_of op) qubit first.1,
     )
 
 -- so only one zone performs it in a step
@@ -128,9 +128,9 @@ performs-count setting facts r t config g sound one in_zone performed =
     let few : how_many test done ≤ 1 =
     at_most_one-from test done (AreDifferent-filter (happens facts t) (activities_of setting) (different_activities setting))
     (λ a b a_in b_in a_is b_is.
-      let first = (Contains-filter (happens facts t) (activities_of setting) a).0 a_in in
-      let second = (Contains-filter (happens facts t) (activities_of setting) b).0 b_in in
-      same_operation setting facts r t config g a b sound one in_zone ((there-activity setting a).0 first.0) ((there-activity setting b).0 second.0) first.1 second.1 a_is b_is) in
+    let first = (Contains-filter (happens facts t) (activities_of setting) a).0 a_in in
+    let second = (Contains-filter (happens facts t) (activities_of setting) b).0 b_in in
+    same_operation setting facts r t config g a b sound one in_zone ((there-activity setting a).0 first.0) ((there-activity setting b).0 second.0) first.1 second.1 a_is b_is) in
     let there : Contains done (operation g performed.zone) =
     (Contains-filter (happens facts t) (activities_of setting) (operation g performed.zone)).1
     ((there-activity setting (operation g performed.zone)).1 performed.able, performed.performs) in
@@ -185,9 +185,9 @@ performs_next : (setting : SettingValue) (facts : Facts) (r : ℕ) (config : Lis
 performs_next setting facts r config g sound one is_step is =
     counted_once (facts (done_item g r)) (facts (done_item g (suc r))) (how_many (performs g) (step_of setting facts (suc r) config)) (is_step.done g is).0
     (λ some.
-      let it : IsPerformed setting facts g (suc r) = performs-step setting facts (suc r) config g some in
-      let once = is_step.once g it.zone it.able it.performs in
-      (once.0, once.1, performs-count setting facts r (suc r) config g sound one is_step.ions_in_zone it))
+    let it : IsPerformed setting facts g (suc r) = performs-step setting facts (suc r) config g some in
+    let once = is_step.once g it.zone it.able it.performs in
+    (once.0, once.1, performs-count setting facts r (suc r) config g sound one is_step.ions_in_zone it))
     (λ now. elim ((is_step.done g is).1 now) [
       | inl was ↦ inl was
       | inr performed ↦ inr (omega (arith, performs-count setting facts r (suc r) config g sound one is_step.ions_in_zone performed))

@@ -1,5 +1,5 @@
 -- The facts of a schedule that plays: which operations are done.
-use Rattle.std.proofs.Common.{◌≡◌, ℕ, zero, suc, ◌-◌, ◌<◌, ◌≤◌, Bool, true, List, [], ◌∷◌, length, take, take_all, refl, sym, ap, subst, ◌∙◌, inl, inr, arith}
+use Rattle.std.proofs.Common.{◌≡◌, ℕ, zero, suc, ◌<◌, ◌≤◌, Bool, true, List, [], ◌∷◌, length, take, take_all, refl, sym, ap, subst, ◌∙◌, inl, inr, arith}
 use Rattle.std.specs.Prelude.{Contains, IsTrue, slice_index_or, ◌==◌, ◌||◌}
 use Rattle.std.specs.List.{list_all, list_any}
 use Rattle.std.proofs.lemmas.Bool.{cases_eq, or_cases, or_left, or_right, and_from, and_parts, eq-eqb, eqb-true, ltb-true, false_from_ne_true}
@@ -177,8 +177,8 @@ once-facts setting steps r sound plays g z activity performed =
     list_any-some (performs g) (step_at steps (suc r)) it.member it.there (performs_by g z it.member it.passes) in
     let now : PerformsIn steps g r = performs_next steps g r (ap (list_any (performs g)) (sym (step_next steps r)) ∙ some) in (
       false_from_ne_true (is_done (take r steps) g) (λ done.
-        let earlier = done-performed steps g r done in
-        omega (arith, earlier.1, performed-one_step setting steps g earlier.0 r plays activity.0 earlier.2 now)),
+          let earlier = done-performed steps g r done in
+          omega (arith, earlier.1, performed-one_step setting steps g earlier.0 r plays activity.0 earlier.2 now)),
       performed-done steps g r (suc r) now (omega arith),
     )
 
@@ -187,11 +187,11 @@ pub done-facts : (setting : SettingValue) (steps : List (List Action)) (r : ℕ)
 done-facts setting steps r sound plays g is = (
   λ done. let it = done-performed steps g r done in performed-done steps g it.0 (suc r) it.2 (omega (arith, it.1)),
   λ done.
-    let it = done-performed steps g (suc r) done in
-    elim (cases_eq it.0 r) [
-      | inl same ↦ inr (is_performed_by setting steps g r plays (subst (PerformsIn steps g) same it.2))
-      | inr other ↦ inl (performed-done steps g it.0 r it.2 (omega (arith, it.1, other)))
-    ],
+      let it = done-performed steps g (suc r) done in
+      elim (cases_eq it.0 r) [
+        | inl same ↦ inr (is_performed_by setting steps g r plays (subst (PerformsIn steps g) same it.2))
+        | inr other ↦ inl (performed-done steps g it.0 r it.2 (omega (arith, it.1, other)))
+      ],
 )
 
 -- a step that performs it

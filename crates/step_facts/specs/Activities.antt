@@ -1,5 +1,5 @@
 -- What can happen in a step.
-use Rattle.std.specs.Prelude.{◌≡◌, ℕ, ◌<◌, ◌==◌, Bool, true, IsTrue, List, ◌++◌, length, map}
+use Rattle.std.specs.Prelude.{ℕ, ◌<◌, ◌==◌, Bool, IsTrue, List, ◌++◌, length, map}
 use Rattle.std.specs.List.{flat_map}
 use Rattle.circuit_core.specs.Order.{is_performed}
 use Rattle.trap_model.specs.declared.channel.Channel.{Channel}

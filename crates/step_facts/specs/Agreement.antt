@@ -1,5 +1,5 @@
 -- Facts that agree with a configuration, with a step, and with a whole schedule.
-use Rattle.std.specs.Prelude.{◌≡◌, ℕ, suc, ◌<◌, ◌≤◌, Bool, true, false, IsTrue, ◌&&◌, All, List, [], ◌∷◌}
+use Rattle.std.specs.Prelude.{◌≡◌, ℕ, suc, ◌<◌, ◌≤◌, false, IsTrue, ◌&&◌, All, List, [], ◌∷◌}
 use Rattle.std.specs.List.{list_any}
 use Rattle.qc_base.specs.declared.ids.Ion.{Ion}
 use Rattle.trap_model.specs.Trap.{place_count}

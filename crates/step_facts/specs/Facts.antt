@@ -1,5 +1,5 @@
 -- Facts: which items are true. Step t leads from time r to time t.
-use Rattle.std.specs.Prelude.{◌≡◌, ℕ, ◌<◌, ◌≤◌, Bool, true, not, if◌then◌else◌, List, [], ◌∷◌, length, slice_get, Some, ◌⊎◌}
+use Rattle.std.specs.Prelude.{◌≡◌, ℕ, ◌≤◌, Bool, true, not, if◌then◌else◌, List, [], ◌∷◌, slice_get, Some, ◌⊎◌}
 use Rattle.qc_base.specs.declared.ids.End.{End}
 use Rattle.qc_base.specs.Counting.{how_many}
 use Rattle.trap_model.specs.Channels.{channels_of}

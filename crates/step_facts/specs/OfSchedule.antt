@@ -12,7 +12,6 @@ use Rattle.step_rules.specs.declared.action.Action.TheVariants as actions
 use Rattle.step_rules.specs.Placement.{start_of}
 use Rattle.step_rules.specs.Setting.{SettingValue}
 use Rattle.step_rules.specs.Play.{after_steps, is_done}
-use Rattle.step_vars.specs.declared.item.Item.{Item}
 use Rattle.step_vars.specs.declared.item.Item.TheVariants.{At, Ord, Use, Leave, Swap, Act, Done, Goal}
 use Rattle.step_vars.specs.Lists.{performed, is_there, is_before}
 use Rattle.step_facts.specs.Facts.{Facts}

@@ -1,5 +1,5 @@
 -- What each family of clauses says of the facts, in words of the trap and the circuit. Step t leads from time r to time t.
-use Rattle.std.specs.Prelude.{◌≡◌, ◌≢◌, ℕ, ◌<◌, ◌≤◌, Bool, true, false, not, if◌then◌else◌, IsTrue, length, ◌⊎◌}
+use Rattle.std.specs.Prelude.{◌≡◌, ◌≢◌, ℕ, ◌<◌, ◌≤◌, true, false, not, if◌then◌else◌, IsTrue, length, ◌⊎◌}
 use Rattle.qc_base.specs.Counting.{how_many}
 use Rattle.circuit_core.specs.Deciding.{is_forced}
 use Rattle.circuit_core.specs.Order.{is_performed}
@@ -8,8 +8,7 @@ use Rattle.trap_model.specs.Joins.{same_end}
 use Rattle.trap_model.specs.Channels.{is_through, splits, merges}
 use Rattle.trap_model.specs.declared.channel.Channel.{Channel}
 use Rattle.step_rules.specs.Setting.{SettingValue}
-use Rattle.step_rules.specs.Guards.{is_able_for}
-use Rattle.step_vars.specs.Items.{at_item, ord_item, use_item, swap_item, act_item, done_item, goal_item}
+use Rattle.step_vars.specs.Items.{at_item, ord_item, swap_item, done_item, goal_item}
 use Rattle.step_vars.specs.Lists.{ion_count, ions_of, is_ion_of, starts_at, starts_before}
 use Rattle.step_facts.specs.Facts.{Facts, IsAt, IsUsed, PassesBy, AreSwapped, IsPerformedIn, IsDone, IsNearer, IsNearerTo, IsChannel, LeavesPlace, EntersPlace}
 use Rattle.step_facts.specs.Activities.{Activity, operation, IsActivity, works_at, item_of}

@@ -6,7 +6,7 @@ use Rattle.step_rules.specs.Setting.{SettingValue}
 use Rattle.step_rules.specs.Play.{Plays}
 use Rattle.step_vars.specs.Items.{use_item}
 use Rattle.step_facts.specs.Facts.{Facts}
-use Rattle.step_facts.specs.Run.{IsSetting, PartsHold}
+use Rattle.step_facts.specs.Run.{PartsHold}
 use Rattle.step_facts.specs.OfSchedule.{facts_of, passes_by, step_at}
 use Rattle.step_facts.specs.ToSchedule.{schedule_of}
 use Rattle.step_facts.specs.Agreement.{Describes}

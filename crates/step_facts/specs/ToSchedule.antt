@@ -1,5 +1,5 @@
 -- The schedule of facts: in each step the channels in use in order, then the swaps by zone, then the operations by zone.
-use Rattle.std.specs.Prelude.{ℕ, zero, suc, ◌+◌, ◌==◌, Bool, ◌||◌, if◌then◌else◌, List, [], ◌∷◌, ◌++◌, map, filter, Option, None, Some}
+use Rattle.std.specs.Prelude.{ℕ, zero, suc, ◌+◌, ◌==◌, Bool, ◌||◌, if◌then◌else◌, List, [], ◌∷◌, map, filter, Option, None, Some}
 use Rattle.qc_base.specs.declared.ids.Ion.{Ion}
 use Rattle.qc_base.specs.declared.ids.JunctionId.{JunctionId}
 use Rattle.qc_base.specs.Counting.{how_many}
