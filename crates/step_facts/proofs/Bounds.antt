@@ -17,7 +17,8 @@ use Rattle.step_rules.specs.Guards.{is_able_for}
 use Rattle.step_vars.specs.declared.cells.Cell.{Cell}
 use Rattle.step_vars.specs.declared.item.Item.{Item}
 use Rattle.step_vars.specs.Items.{at_item, use_item}
-use Rattle.step_vars.specs.Lists.{NumberedChannel, ion_count, ions_of, places_of, zones_of, junctions_of, cell, between, pairs_of, able_ops, performed, numbered_from, numbered_channels, channels_where, numbers_where, touches}
+use Rattle.step_vars.specs.declared.channel_test.NumberedChannel.{NumberedChannel}
+use Rattle.step_vars.specs.Lists.{ion_count, ions_of, places_of, zones_of, junctions_of, cell, between, pairs_of, able_ops, performed, numbered_from, numbered_channels, channels_where, numbers_where, touches}
 use Rattle.step_vars.specs.Families.{pairs_in, bound, one_place, few_ions, one_places, few_ions_each, one_activity_each, one_crossing_each, activities_at}
 use Rattle.step_facts.specs.Facts.{Facts, AreBounded}
 use Rattle.step_facts.specs.Activities.{Activity, passage, exchange, operation, IsActivity, works_at, item_of, passages_of, exchanges_of, operations_of, activities_of}

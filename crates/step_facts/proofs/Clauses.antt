@@ -15,8 +15,9 @@ use Rattle.step_vars.specs.declared.cells.Cell.{Cell}
 use Rattle.step_vars.specs.declared.item.Item.{Item}
 use Rattle.step_vars.specs.declared.item.Claim.{Claim}
 use Rattle.step_vars.specs.Items.{so, not_so, denied}
-use Rattle.step_vars.specs.Lists.{NumberedChannel, ions_of, places_of, zones_of, ion_count, between, cell, pairs_of, performed, able_zones, able_ops, numbered_from, numbered_channels, channels_where, numbers_where}
-use Rattle.step_vars.specs.Families.{Bound}
+use Rattle.step_vars.specs.declared.channel_test.NumberedChannel.{NumberedChannel}
+use Rattle.step_vars.specs.Lists.{ions_of, places_of, zones_of, ion_count, between, cell, pairs_of, performed, able_zones, able_ops, numbered_from, numbered_channels, channels_where, numbers_where}
+use Rattle.step_vars.specs.declared.item.Bound.{Bound}
 use Rattle.step_facts.specs.Facts.{Facts, holds, SomeHolds, AllHold, IsBounded, AreBounded, IsChannel}
 use Rattle.step_facts.proofs.Lists.{Contains-first, Contains-later, Contains-nil, Contains-cons, Contains-range, Contains-filter, Contains-map, Contains-flat_map, range_within, in_range, in_map, in_flat_map}
 

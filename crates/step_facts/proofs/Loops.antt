@@ -11,7 +11,8 @@ use Rattle.step_rules.specs.Setting.{SettingValue}
 use Rattle.circuit_core.specs.Order.{is_performed}
 use Rattle.step_vars.specs.declared.cells.Cell.{Cell}
 use Rattle.step_vars.specs.declared.item.Claim.{Claim}
-use Rattle.step_vars.specs.Lists.{NumberedChannel, ion_count, ions_of, places_of, zones_of, performed, able_zones, acts_of, orders_of, forced_before, cell, numbered_channels, channels_where}
+use Rattle.step_vars.specs.declared.channel_test.NumberedChannel.{NumberedChannel}
+use Rattle.step_vars.specs.Lists.{ion_count, ions_of, places_of, zones_of, performed, able_zones, acts_of, orders_of, forced_before, cell, numbered_channels, channels_where}
 use Rattle.step_vars.specs.Families.{others, thirds, pairs_in}
 use Rattle.step_facts.specs.Facts.{Facts, SomeHolds, AllHold, IsChannel}
 use Rattle.step_facts.specs.Activities.{operation, IsActivity}

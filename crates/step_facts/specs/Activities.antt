@@ -8,7 +8,8 @@ use Rattle.step_rules.specs.Guards.{is_able_for}
 use Rattle.step_vars.specs.declared.cells.Cell.{Cell}
 use Rattle.step_vars.specs.declared.item.Item.{Item}
 use Rattle.step_vars.specs.Items.{use_item, swap_item, act_item}
-use Rattle.step_vars.specs.Lists.{NumberedChannel, ion_count, zones_of, numbered_channels, able_ops, touches}
+use Rattle.step_vars.specs.declared.channel_test.NumberedChannel.{NumberedChannel}
+use Rattle.step_vars.specs.Lists.{ion_count, zones_of, numbered_channels, able_ops, touches}
 use Rattle.step_vars.specs.Families.{pairs_in}
 use Rattle.step_facts.specs.Facts.{IsChannel}
 

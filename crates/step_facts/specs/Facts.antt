@@ -8,7 +8,7 @@ use Rattle.step_rules.specs.Setting.{SettingValue}
 use Rattle.step_vars.specs.declared.item.Item.{Item}
 use Rattle.step_vars.specs.declared.item.Claim.{Claim}
 use Rattle.step_vars.specs.Items.{at_item, use_item, leave_item, swap_item, act_item, done_item, nearer, nearer_to}
-use Rattle.step_vars.specs.Families.{Bound}
+use Rattle.step_vars.specs.declared.item.Bound.{Bound}
 
 abbrev pub Facts : Type 0
 Facts = Item → Bool

@@ -8,7 +8,7 @@ use Rattle.at_most.specs.Sequential.{sequential_count}
 use Rattle.at_most.specs.Totalizer.{output_count, totalizer_count}
 use Rattle.step_vars.specs.declared.encoding.Encoding.{Encoding}
 use Rattle.step_vars.specs.declared.encoding.Encoding.TheVariants as encodings
-use Rattle.step_vars.specs.Families.{Bound}
+use Rattle.step_vars.specs.declared.item.Bound.{Bound}
 use Rattle.step_vars.specs.Limits.{fresh_for, count_by}
 use Rattle.step_vars.specs.Encoding.{helper_count}
 use Rattle.step_vars.proofs.Ranges.{map_more}

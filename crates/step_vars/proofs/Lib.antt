@@ -9,3 +9,4 @@ pub mod PlacesBack
 pub mod Inverse
 pub mod HaveNumbers
 pub mod StepHelpers
+pub mod OfSetting

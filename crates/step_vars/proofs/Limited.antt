@@ -18,7 +18,8 @@ use Rattle.trap_model.proofs.Moves.{slot_of_place}
 use Rattle.step_rules.specs.Setting.{SettingValue}
 use Rattle.step_vars.specs.declared.cells.Cell.{Cell}
 use Rattle.step_vars.specs.Items.{at_item, use_item, swap_item, act_item}
-use Rattle.step_vars.specs.Lists.{places_of, ions_of, NumberedChannel, numbered_from, channels_where, numbers_where, touches, pairs_of, ion_count, able_ops}
+use Rattle.step_vars.specs.declared.channel_test.NumberedChannel.{NumberedChannel}
+use Rattle.step_vars.specs.Lists.{places_of, ions_of, numbered_from, channels_where, numbers_where, touches, pairs_of, ion_count, able_ops}
 use Rattle.step_vars.specs.Families.{activities_at, activities_in_zone, pairs_in}
 use Rattle.step_vars.proofs.Ranges.{filter_taken, filter_passed}
 

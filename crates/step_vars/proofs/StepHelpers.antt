@@ -6,7 +6,8 @@ use Rattle.trap_model.specs.Channels.{is_through}
 use Rattle.step_vars.specs.declared.encoding.Encoding.{Encoding}
 use Rattle.step_vars.specs.Items.{use_item}
 use Rattle.step_vars.specs.Lists.{ions_of, places_of, junctions_of, numbers_where}
-use Rattle.step_vars.specs.Families.{Bound, bound, one_place, one_places, few_ions, few_ions_each, activities_at, one_activity_each, one_crossing_each}
+use Rattle.step_vars.specs.declared.item.Bound.{Bound}
+use Rattle.step_vars.specs.Families.{bound, one_place, one_places, few_ions, few_ions_each, activities_at, one_activity_each, one_crossing_each}
 use Rattle.step_vars.specs.Encoding.{helper_count, place_bounds, activity_bounds}
 use Rattle.step_vars.proofs.HelperCounts.{helper_count-append}
 use Rattle.step_vars.proofs.Limited.{places_counted, ions_counted, crossing_counted, zone_counted, slot_counted}

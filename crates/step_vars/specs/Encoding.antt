@@ -12,7 +12,8 @@ use Rattle.step_vars.specs.declared.cells.Cell.{Cell}
 use Rattle.step_vars.specs.Items.{time_of, so, goal_item}
 use Rattle.step_vars.specs.Lists.{ion_count, pairs_of, performed, acts_of, orders_of, cell}
 use Rattle.step_vars.specs.Numbering.{Numbering, number_of, literal_of, first_helper}
-use Rattle.step_vars.specs.Families.{Bound, start_places, start_orders, start_undone, one_places, few_ions_each, leaves_from_source, leaves_to_target, leaves_use_channel, all_stay_or_leave, all_stayed_or_came, use_passes_some, use_needs_empty_slot, use_empties_slot, splits_take_the_front, one_activity_each, one_crossing_each, swaps_in_zone, swaps_of_neighbours, swaps_turn, stayers_keep_order, chains_keep_order, merges_at_the_end, ions_in_zone, acts_do, all_done_by_acts, done_in_order, goal_needs_all}
+use Rattle.step_vars.specs.declared.item.Bound.{Bound}
+use Rattle.step_vars.specs.Families.{start_places, start_orders, start_undone, one_places, few_ions_each, leaves_from_source, leaves_to_target, leaves_use_channel, all_stay_or_leave, all_stayed_or_came, use_passes_some, use_needs_empty_slot, use_empties_slot, splits_take_the_front, one_activity_each, one_crossing_each, swaps_in_zone, swaps_of_neighbours, swaps_turn, stayers_keep_order, chains_keep_order, merges_at_the_end, ions_in_zone, acts_do, all_done_by_acts, done_in_order, goal_needs_all}
 use Rattle.step_vars.specs.Limits.{limited, fresh_for}
 
 -- ---- the families of a part, in order

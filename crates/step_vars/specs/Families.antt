@@ -11,13 +11,11 @@ use Rattle.step_vars.specs.declared.cells.Cell.{Cell}
 use Rattle.step_vars.specs.declared.item.Item.{Item}
 use Rattle.step_vars.specs.declared.item.Claim.{Claim}
 use Rattle.step_vars.specs.Items.{at_item, ord_item, use_item, leave_item, swap_item, act_item, done_item, goal_item, so, not_so, denied, nearer, nearer_to}
-use Rattle.step_vars.specs.Lists.{NumberedChannel, ion_count, ions_of, places_of, zones_of, junctions_of, pairs_of, performed, able_zones, able_ops, acts_of, orders_of, ions_of_op, numbered_channels, begins_at, ends_at, touches, numbers_where, channels_where, into_slot, from_slot, is_split_channel, is_merge_channel, starts_at, starts_before}
+use Rattle.step_vars.specs.declared.item.Bound.{Bound}
+use Rattle.step_vars.specs.declared.channel_test.NumberedChannel.{NumberedChannel}
+use Rattle.step_vars.specs.Lists.{ion_count, ions_of, places_of, zones_of, junctions_of, pairs_of, performed, able_zones, able_ops, acts_of, orders_of, ions_of_op, numbered_channels, begins_at, ends_at, touches, numbers_where, channels_where, into_slot, from_slot, is_split_channel, is_merge_channel, starts_at, starts_before}
 
 -- at most so many of these items hold
-pub record Bound : Type 0 where
-  pub limit : ℕ
-  pub items : List Item
-
 abbrev pub bound : ℕ → List Item → Bound
 bound limit items = record { limit = limit; items = items }
 

@@ -7,3 +7,4 @@ pub mod Limits
 pub mod Encoding
 pub mod Tables
 pub mod ItemOf
+pub mod Certifies

@@ -15,6 +15,7 @@ use Rattle.step_rules.specs.Placement.{ion_of, start_of}
 use Rattle.step_rules.specs.Setting.{SettingValue}
 use Rattle.step_rules.specs.Guards.{is_able_for}
 use Rattle.step_vars.specs.declared.cells.Cell.{Cell}
+use Rattle.step_vars.specs.declared.channel_test.NumberedChannel.{NumberedChannel}
 
 abbrev pub cell : ℕ → ℕ → Cell
 cell row col = record { row = row; col = col }
@@ -79,11 +80,6 @@ abbrev pub orders_of : CircuitValue → List Cell
 orders_of circuit = flat_map (λ g. map (cell g) (forced_before circuit g)) (performed circuit)
 
 -- ---- channels
-
--- a channel with its number
-pub record NumberedChannel : Type 0 where
-  pub number : ℕ
-  pub channel : Channel
 
 abbrev pub numbered_from : ℕ → List Channel → List NumberedChannel
 numbered_from number [] = []

@@ -4,7 +4,14 @@ ghost use Rattle.std.specs.Prelude.{◌≡◌, ◌≤◌, filter, length};
 ghost use Rattle.step_vars.specs.ChannelTests.{passes};
 
 use qc_base::{JunctionId, PlaceId};
-use trap_model::Channel;
+use trap_model::{Channel, Kind};
+
+/// A channel with its number.
+#[derive(Clone, Copy, Debug, PartialEq, Eq)]
+pub struct NumberedChannel {
+    pub number: u32,
+    pub channel: Channel,
+}
 
 /// What a channel is tested for.
 #[derive(Clone, Copy, Debug, PartialEq, Eq)]
@@ -17,6 +24,14 @@ pub enum ChannelTest {
     Touching(PlaceId),
     /// It passes the junction.
     Through(JunctionId),
+    /// It begins at a slot, where there are so many zones.
+    FromSlot(u32),
+    /// It ends at a slot, where there are so many zones.
+    IntoSlot(u32),
+    /// It splits off from a zone.
+    Splits,
+    /// It merges into a zone.
+    Merges,
 }
 
 impl ChannelTest {
@@ -32,6 +47,10 @@ impl ChannelTest {
                 Some(other) => junction.0 == other.0,
                 None => false,
             },
+            ChannelTest::FromSlot(zones) => channel.from.0 >= zones,
+            ChannelTest::IntoSlot(zones) => channel.to.0 >= zones,
+            ChannelTest::Splits => channel.kind == Kind::Split,
+            ChannelTest::Merges => channel.kind == Kind::Merge,
         }
     }
 

@@ -4,7 +4,7 @@ ghost use Rattle.std.specs.Prelude.{◌≡◌};
 ghost use Rattle.step_vars.specs.Numbering.{is_timely};
 ghost use Rattle.step_vars.specs.Items.{time_of, is_of_time, so, not_so, denied};
 
-use qc_base::{Ion, OpId, PlaceId};
+use qc_base::{Ion, Items, OpId, PlaceId};
 
 /// What a variable says. Step t leads from time t - 1 to time t.
 #[derive(Clone, Copy, Debug, PartialEq, Eq)]
@@ -124,4 +124,11 @@ impl Claim {
             positive: !self.positive,
         }
     }
+}
+
+/// That at most so many of some items hold.
+#[derive(Debug, Drop)]
+pub struct Bound {
+    pub limit: u32,
+    pub items: Items<Item>,
 }

@@ -17,9 +17,9 @@ mod vars;
 
 pub use abilities::is_able;
 pub use cells::{Cell, Cells};
-pub use channel_test::ChannelTest;
+pub use channel_test::{ChannelTest, NumberedChannel};
 pub use encoding::Encoding;
-pub use item::{Claim, Item};
+pub use item::{Bound, Claim, Item};
 pub use laws::{
     helpers_are_in_their_part, helpers_are_no_items, items_have_numbers, numbers_differ,
     parts_are_in_order, steps_have_equal_helpers,

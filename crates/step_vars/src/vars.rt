@@ -422,7 +422,8 @@ impl Vars {
     /// The number of the first helper of the part of that time.
     pub fn first_helper(&self, time: u32) -> u32
         requires { time ≤ self.now.steps }
-        ensures { result ≡ first_helper self.now.numbering time }
+        ensures first { result ≡ first_helper self.now.numbering time }
+        ensures room { result + (sizes_at self.now.numbering time).helpers ≤ 2 ^ 31 }
     {
         self.before(time) + self.sizes(time).helpers_from() + 1
     }
