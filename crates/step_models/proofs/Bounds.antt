@@ -1,11 +1,11 @@
 -- Lists of which at most so many items may hold, each with its helpers after those of the lists before it.
-use Rattle.std.proofs.Common.{◌≡◌, ℕ, ◌+◌, ◌^◌, ◌<◌, ◌≤◌, List, [], ◌∷◌, ◌⊎◌, length, refl, sym, ap, ◌∙◌, subst, arith, inl, inr}
+use Rattle.std.proofs.Common.{ℕ, ◌+◌, ◌^◌, ◌<◌, ◌≤◌, List, [], ◌∷◌, ◌⊎◌, length, subst, arith, inl, inr}
 use Rattle.std.specs.List.{AllByRecursion}
 use Rattle.sat_base.specs.Literal.{Literal}
 use Rattle.sat_base.specs.Clauses.{Mentions, EachVariable, NameOnly}
 use Rattle.sat_base.specs.Truth.{Valuation, true_count, Satisfies, AgreeExcept}
 use Rattle.sat_base.proofs.Truth.{Satisfies-append, Satisfies-of_append}
-use Rattle.sat_base.proofs.Clauses.{EachVariable-has, NameOnly-append, NameOnly-weaken}
+use Rattle.sat_base.proofs.Clauses.{NameOnly-append, NameOnly-weaken}
 use Rattle.sat_base.proofs.Agree.{AgreeExcept-refl, AgreeExcept-trans, true_count-below, Satisfies-below}
 use Rattle.at_most.specs.AtMost.{IsNew}
 use Rattle.step_vars.specs.declared.item.Item.{Item}
@@ -14,7 +14,7 @@ use Rattle.step_vars.specs.Items.{so}
 use Rattle.step_vars.specs.Numbering.{literal_of}
 use Rattle.step_vars.specs.Limits.{limited, fresh_for}
 use Rattle.step_vars.specs.Encoding.{VarsValue, literals_of, bounds_of, helper_count}
-use Rattle.step_facts.specs.Facts.{Facts, IsBounded, AreBounded}
+use Rattle.step_facts.specs.Facts.{Facts, AreBounded}
 use Rattle.step_clauses.specs.Encoded.{IsEncoded, IsEncodedBound, AreEncodedBounds}
 use Rattle.step_clauses.proofs.Literals.{bound_later}
 use Rattle.step_models.specs.Models.{facts_by}
@@ -41,8 +41,12 @@ ready_rest : (v : VarsValue) (first next : ℕ) (it : Bound) (bounds : List Boun
     → AreReadyFrom v first next (it ∷ bounds)
     → AreReadyFrom v first (after_first v next it) bounds
 ready_rest v first next it bounds ready =
-    record { each = ready.each.1; later = omega (arith, ready.later); from_1 = ready.from_1; room = omega
-        (arith, ready.room) }
+    record {
+      each = ready.each.1;
+      later = omega (arith, ready.later);
+      from_1 = ready.from_1;
+      room = omega (arith, ready.room);
+    }
 
 first_ready : (v : VarsValue) (first next : ℕ) (it : Bound) (bounds : List Bound)
     → AreReadyFrom v first next (it ∷ bounds) → IsEncodedBound v next it
@@ -58,12 +62,13 @@ pub bounds_hold : EncodingsLimit
 bounds_hold all v first next [] values ready sat = tt
 bounds_hold all v first next (it ∷ bounds) values ready sat =
     let here = bound_limits all v next it (first_ready v first next it bounds ready)
-        (omega (arith, ready.from_1, ready.later)) (omega (arith, ready.room)) in
+    (omega (arith, ready.from_1, ready.later)) (omega (arith, ready.room)) in
     let parts = Satisfies-of_append values (limited v.encoding (literals_of v.numbering it.items) it.limit next)
-    (bounds_of v.numbering v.encoding (after_first v next it) bounds) sat in
-    (omega (arith, here.holds values parts.0, counted v.numbering values it.items),
-    bounds_hold all v first (after_first v next it) bounds values
-        (ready_rest v first next it bounds ready) parts.1)
+    (bounds_of v.numbering v.encoding (after_first v next it) bounds) sat in (
+      omega (arith, here.holds values parts.0, counted v.numbering values it.items),
+      bounds_hold all v first (after_first v next it) bounds values
+          (ready_rest v first next it bounds ready) parts.1,
+    )
 
 -- ---- from facts to values
 
@@ -76,8 +81,10 @@ pub bounds_said : (v : VarsValue) (facts : Facts) (values : Valuation) (first : 
     → Says v.numbering facts values
     → AllByRecursion (IsEncodedBound v first) bounds → AreBounded facts bounds → AreKept v values bounds
 bounds_said v facts values first [] says all h = tt
-bounds_said v facts values first (it ∷ bounds) says all h =
-    (omega (arith, h.0, count_said v facts values it.items says all.0.items), bounds_said v facts values first bounds says all.1 h.1)
+bounds_said v facts values first (it ∷ bounds) says all h = (
+  omega (arith, h.0, count_said v facts values it.items says all.0.items),
+  bounds_said v facts values first bounds says all.1 h.1,
+)
 
 items_below : (v : VarsValue) (first : ℕ) (items : List Item)
     → AllByRecursion (λ item. (literal_of v.numbering (so item)).var < first) items
@@ -90,10 +97,15 @@ kept_later : (v : VarsValue) (first next end : ℕ) (values other : Valuation) (
     → first ≤ next → AgreeExcept next end values other → AreKept v values bounds → AreKept v other bounds
 kept_later v first next end values other [] all later agree kept = tt
 kept_later v first next end values other (it ∷ bounds) all later agree kept =
-    let here = bound_later v first next it later all.0 in
-    (omega (arith, kept.0, true_count-below next end values other (literals_of v.numbering it.items) agree
-    (items_below v next it.items here.below)),
-    kept_later v first next end values other bounds all.1 later agree kept.1)
+    let here = bound_later v first next it later all.0 in (
+      omega (
+        arith,
+        kept.0,
+        true_count-below next end values other (literals_of v.numbering it.items) agree
+            (items_below v next it.items here.below),
+      ),
+      kept_later v first next end values other bounds all.1 later agree kept.1,
+    )
 
 mentioned : (P : ℕ → Type 0) (literals : List Literal) (var : ℕ) → EachVariable P literals
     → Mentions literals var → P var
@@ -105,17 +117,16 @@ mentioned P (literal ∷ literals) var each (inr h) = mentioned P literals var e
 limited_below : EncodingsLimit → (v : VarsValue) (next : ℕ) (it : Bound) → IsEncodedBound v next it → 1 ≤ next
     → after_first v next it ≤ 2 ^ 31
     → NameOnly (λ var. var < after_first v next it)
-        (limited v.encoding (literals_of v.numbering it.items) it.limit next)
+    (limited v.encoding (literals_of v.numbering it.items) it.limit next)
 limited_below all v next it ready one room =
     let literals = literals_of v.numbering it.items in
     let below = items_below v next it.items ready.below in
-    let here : (var : ℕ) → Mentions literals var ⊎ IsNew next (after_first v next it) var
-    → var < after_first v next it = λ var h. elim h [
+    let old_or_new : ℕ → Type 0 = λ var. Mentions literals var ⊎ IsNew next (after_first v next it) var in
+    let here : (var : ℕ) → old_or_new var → var < after_first v next it = λ var h. elim h [
       | inl old ↦ let small = mentioned (λ k. k < next) literals var below old in omega arith
       | inr new ↦ new.1
     ] in
-    NameOnly-weaken (λ var. Mentions literals var ⊎ IsNew next (after_first v next it) var)
-        (λ var. var < after_first v next it)
+    NameOnly-weaken old_or_new (λ var. var < after_first v next it)
     (limited v.encoding literals it.limit next) here (bound_limits all v next it ready one room).names
 
 -- the helpers can be given values that satisfy the clauses
@@ -129,7 +140,7 @@ pub bounds_extended : EncodingsLimit
     → AreReadyFrom v first next bounds
     → AreKept v values bounds
     → Extended values next (next + helper_count v.encoding bounds)
-        (bounds_of v.numbering v.encoding next bounds)
+    (bounds_of v.numbering v.encoding next bounds)
 bounds_extended all v first next [] values ready kept =
     record { other = values; agree = AgreeExcept-refl next (next + 0) values; satisfies = tt }
 bounds_extended all v first next (it ∷ bounds) values ready kept =
@@ -144,13 +155,13 @@ bounds_extended all v first next (it ∷ bounds) values ready kept =
     (kept_later v first next mid values here.0 bounds ready.each.1 ready.later here.1.0 kept.1) in
     record {
       other = rest.other;
-      agree = AgreeExcept-trans next end next mid mid
-          (mid + helper_count v.encoding bounds) values here.0 rest.other
-      (omega arith) (omega arith) (omega arith) (omega arith) here.1.0 rest.agree;
+      agree = AgreeExcept-trans next end next mid mid (mid + helper_count v.encoding bounds)
+          values here.0 rest.other
+          (omega arith) (omega arith) (omega arith) (omega arith) here.1.0 rest.agree;
       satisfies = Satisfies-append rest.other clauses (bounds_of v.numbering v.encoding mid bounds)
-      (Satisfies-below mid (mid + helper_count v.encoding bounds) here.0 rest.other clauses rest.agree
-      (limited_below all v next it own one fits) here.1.1)
-      rest.satisfies;
+          (Satisfies-below mid (mid + helper_count v.encoding bounds) here.0 rest.other clauses rest.agree
+          (limited_below all v next it own one fits) here.1.1)
+          rest.satisfies;
     }
 
 -- ---- the variables of the clauses
@@ -171,11 +182,11 @@ bounds_own all v first next (it ∷ bounds) P ready own new =
     let literals = literals_of v.numbering it.items in
     let clauses = limited v.encoding literals it.limit next in
     let limits = bound_limits all v next it (first_ready v first next it bounds ready)
-        (omega (arith, ready.from_1, ready.later)) (omega (arith, ready.room)) in
+    (omega (arith, ready.from_1, ready.later)) (omega (arith, ready.room)) in
     let here : (var : ℕ) → Mentions literals var ⊎ IsNew next mid var → P var = λ var h. elim h [
       | inl old ↦ own var
           (mentioned (IsOwn v.numbering v.steps) literals var (items_own v it.items ready.each.0.items) old)
-        (mentioned (λ k. k < first) literals var (items_below v first it.items ready.each.0.below) old)
+          (mentioned (λ k. k < first) literals var (items_below v first it.items ready.each.0.below) old)
       | inr helper ↦ new var (helper.0, omega (arith, helper.1))
     ] in
     NameOnly-append P clauses (bounds_of v.numbering v.encoding mid bounds)

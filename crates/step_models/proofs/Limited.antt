@@ -1,5 +1,5 @@
 -- One list of which at most so many items may hold.
-use Rattle.std.proofs.Common.{◌≡◌, ℕ, ◌+◌, ◌^◌, ◌<◌, ◌≤◌, Bool, true, false, cond, List, [], ◌∷◌, ◌⊎◌, length, refl, sym, ap, ◌∙◌, subst, arith, inl, inr}
+use Rattle.std.proofs.Common.{◌≡◌, ℕ, ◌+◌, ◌^◌, ◌≤◌, Bool, true, false, cond, List, [], ◌∷◌, length, refl, ap, ◌∙◌, subst, arith, inl, inr}
 use Rattle.std.specs.Prelude.{nat_le, ◌==◌}
 use Rattle.std.specs.List.{AllByRecursion}
 use Rattle.std.proofs.lemmas.Bool.{cases_lt, lt-ltb, le-ltb}
@@ -22,7 +22,7 @@ use Rattle.step_vars.specs.Limits.{limited, fresh_for, clauses_by, count_by, IsW
 use Rattle.step_vars.specs.Encoding.{VarsValue, literals_of}
 use Rattle.step_facts.specs.Facts.{Facts}
 use Rattle.step_clauses.specs.Encoded.{IsEncoded, IsEncodedBound}
-use Rattle.step_clauses.proofs.Literals.{has_room, lits_long, bound_later}
+use Rattle.step_clauses.proofs.Literals.{has_room, lits_long}
 use Rattle.step_models.specs.Models.{facts_by}
 use Rattle.step_models.proofs.Truth.{Says, claim_said}
 
@@ -48,13 +48,13 @@ limits_by : EncodingsLimit → (encoding : Encoding) (literals : List Literal) (
 limits_by all encodings.Pairwise literals k next limit = all.pairwise literals k next limit
 limits_by all encodings.Counter literals k next limit =
     both_branches (LimitWith literals k next) (nat_le (length literals) 4) 0
-        (cond (k == 1) (sequential_count (length literals) k) (totalizer_count (length literals) k))
+    (cond (k == 1) (sequential_count (length literals) k) (totalizer_count (length literals) k))
     (pairwise literals k) (cond (k == 1) (sequential literals k next) (totalizer literals k next))
     (all.pairwise literals k next limit)
-    (both_branches (LimitWith literals k next) (k == 1) (sequential_count (length literals) k)
-    (totalizer_count (length literals) k)
-      (sequential literals k next) (totalizer literals k next) (all.sequential literals k next limit)
-      (all.totalizer literals k next limit))
+    (both_branches (LimitWith literals k next) (k == 1)
+    (sequential_count (length literals) k) (totalizer_count (length literals) k)
+    (sequential literals k next) (totalizer literals k next)
+    (all.sequential literals k next limit) (all.totalizer literals k next limit))
 
 -- a limit that is not below the length is kept anyhow
 no_clauses : (literals : List Literal) (k next end : ℕ) → length literals ≤ k → Limits k literals next end []
@@ -79,21 +79,20 @@ pub bound_limits : EncodingsLimit → (v : VarsValue) (next : ℕ) (it : Bound) 
     → 1 ≤ next
     → next + fresh_for v.encoding (length it.items) it.limit ≤ 2 ^ 31
     → Limits it.limit (literals_of v.numbering it.items) next
-        (next + fresh_for v.encoding (length it.items) it.limit)
+    (next + fresh_for v.encoding (length it.items) it.limit)
     (limited v.encoding (literals_of v.numbering it.items) it.limit next)
 bound_limits all v next it ready one room =
     let literals = literals_of v.numbering it.items in
     let long = lits_long v.numbering it literals refl in
-    let within : IsWithin
-        (length literals) it.limit = record { some = ready.limit.some; few = omega
-        (arith, long, ready.limit.few) } in
+    let within : IsWithin (length literals) it.limit =
+    record { some = ready.limit.some; few = omega (arith, long, ready.limit.few) } in
     let fits : next + fresh_for v.encoding (length literals) it.limit ≤ 2 ^ 31 = rw long room in
-    let P : ℕ
-    → Type 0 = λ m. Limits it.limit literals next (next + fresh_for v.encoding m it.limit)
-        (limited v.encoding literals it.limit next) in
+    let P : ℕ → Type 0 = λ m.
+    Limits it.limit literals next (next + fresh_for v.encoding m it.limit)
+    (limited v.encoding literals it.limit next) in
     subst P long
-        (limited_limits all v.encoding literals it.limit next within
-        (has_room v it next (fresh_for v.encoding (length literals) it.limit) literals ready one fits refl))
+    (limited_limits all v.encoding literals it.limit next within
+    (has_room v it next (fresh_for v.encoding (length literals) it.limit) literals ready one fits refl))
 
 -- ---- how many hold
 
@@ -109,5 +108,5 @@ pub count_said : (v : VarsValue) (facts : Facts) (values : Valuation) (items : L
 count_said v facts values [] says all = refl
 count_said v facts values (item ∷ items) says all =
     ap (λ b. cond b 1 0 + true_count values (literals_of v.numbering items))
-        (claim_said v.numbering facts values (so item) says all.0.number)
+    (claim_said v.numbering facts values (so item) says all.0.number)
     ∙ ap (λ k. cond (facts item) 1 0 + k) (count_said v facts values items says all.1)

@@ -1,5 +1,5 @@
 -- All parts up to a time: their models and their facts.
-use Rattle.std.proofs.Common.{◌≡◌, ℕ, zero, suc, ◌+◌, ◌<◌, ◌≤◌, true, List, ◌++◌, length, refl, sym, ap, ◌∙◌, subst, arith, inl, inr}
+use Rattle.std.proofs.Common.{◌≡◌, ℕ, zero, suc, ◌+◌, ◌<◌, ◌≤◌, length, refl, ◌∙◌, subst, arith, inl, inr}
 use Rattle.std.proofs.lemmas.Bool.{cases_lt}
 use Rattle.sat_base.specs.Clauses.{NameOnly}
 use Rattle.sat_base.specs.Truth.{Valuation, Satisfies}
@@ -12,18 +12,18 @@ use Rattle.step_vars.specs.declared.encoding.Encoding.{Encoding}
 use Rattle.step_vars.specs.Items.{so, goal_item, use_item}
 use Rattle.step_vars.specs.Families.{goal_needs_all}
 use Rattle.step_vars.specs.Numbering.{Numbering, before, sizes_at, first_helper}
-use Rattle.step_vars.specs.Encoding.{VarsValue, IsSmall, vars_of, numbering_of, clauses_of, start_clauses, step_part, layer_of, goal_of, part_of, encoding_of}
+use Rattle.step_vars.specs.Encoding.{IsSmall, vars_of, numbering_of, start_clauses, layer_of, goal_of, part_of, encoding_of}
 use Rattle.step_vars.proofs.Inverse.{before_mono}
 use Rattle.step_vars.proofs.HaveNumbers.{use_has_number, goal_has_number}
 use Rattle.step_facts.specs.Facts.{Facts, AllHold}
 use Rattle.step_facts.specs.OfSchedule.{facts_of as schedule_facts}
 use Rattle.step_facts.specs.Run.{IsSetting, StepHolds, PartsHold}
 use Rattle.step_facts.specs.Theorems.{SchedulesHaveFacts, FactsSayUses}
-use Rattle.step_models.specs.Models.{facts_by, facts_of, IsModel, Fits, EveryScheduleFits, EveryModelHasFacts, PartsNameTheirVariables}
+use Rattle.step_models.specs.Models.{facts_of, EveryScheduleFits, EveryModelHasFacts}
 use Rattle.step_models.proofs.Truth.{Says, IsOwn, values_of, says_first, says_kept, claim_said, clauses_satisfied, clauses_hold, clauses_own}
 use Rattle.step_models.proofs.Limited.{EncodingsLimit}
 use Rattle.step_models.proofs.Bounds.{Extended}
-use Rattle.step_models.proofs.Ready.{IsReady, step_is_ready, start_is_ready, goal_is_ready}
+use Rattle.step_models.proofs.Ready.{step_is_ready, start_is_ready, goal_is_ready}
 use Rattle.step_models.proofs.Step.{step_holds, step_own, step_extended}
 
 small_before : (setting : SettingValue) (s t : ℕ) → s ≤ t → IsSmall setting t → IsSmall setting s
@@ -43,12 +43,12 @@ unfolding vars_of numbering_of layer_of goal_of
 part_own all setting encoding zero is small =
     let v = vars_of setting encoding zero in
     NameOnly-append (IsOwn v.numbering zero) _ _
-        (clauses_own v (start_clauses setting) (start_is_ready setting encoding zero is small))
+    (clauses_own v (start_clauses setting) (start_is_ready setting encoding zero is small))
     (clauses_own v (goal_needs_all setting zero) (goal_is_ready setting encoding zero))
 part_own all setting encoding (suc r) is small =
     let v = vars_of setting encoding (suc r) in
     NameOnly-append (IsOwn v.numbering (suc r)) _ _
-        (step_own all v setting r (suc r) (step_is_ready setting encoding r is small))
+    (step_own all v setting r (suc r) (step_is_ready setting encoding r is small))
     (clauses_own v (goal_needs_all setting (suc r)) (goal_is_ready setting encoding (suc r)))
 
 pub parts_own : EncodingsLimit → (setting : SettingValue) (encoding : Encoding) (t : ℕ) → IsSetting setting
@@ -61,7 +61,7 @@ parts_own all setting encoding (suc r) is small =
     NameOnly-append (IsOwn n (suc r)) (encoding_of setting encoding r) (part_of setting encoding (suc r))
     (NameOnly-weaken (IsOwn n r) (IsOwn n (suc r)) (encoding_of setting encoding r)
     (λ var own. own_later n r (suc r) var last own)
-      (parts_own all setting encoding r is (small_before setting r (suc r) last small)))
+    (parts_own all setting encoding r is (small_before setting r (suc r) last small)))
     (part_own all setting encoding (suc r) is small)
 
 -- ---- from models to facts
@@ -94,7 +94,7 @@ layer_holds : EncodingsLimit → (setting : SettingValue) (encoding : Encoding) 
 unfolding layer_of vars_of
 layer_holds all setting encoding r values is small sat =
     step_holds all (vars_of setting encoding (suc r)) setting r (suc r) values
-        (step_is_ready setting encoding r is small) sat
+    (step_is_ready setting encoding r is small) sat
 
 -- what holds up to a time and in the next part holds up to the next time
 one_more : (setting : SettingValue) (facts : Facts) (r : ℕ) → HoldUpTo setting facts r
@@ -108,8 +108,9 @@ one_more setting facts r before step goal = record {
   ];
   goals = λ s within. elim (cases_lt s (suc r)) [
     | inl earlier ↦ before.goals s (omega arith)
-    | inr now ↦ let same : suc r
-    ≡ s = omega arith in subst (λ k. AllHold facts (goal_needs_all setting k)) same goal
+    | inr now ↦
+        let same : suc r ≡ s = omega arith in
+        subst (λ k. AllHold facts (goal_needs_all setting k)) same goal
   ];
 }
 
@@ -119,19 +120,20 @@ parts_hold : EncodingsLimit → (setting : SettingValue) (encoding : Encoding) (
 parts_hold all setting encoding zero values is small sat =
     let facts = facts_of setting encoding values in
     let parts = Satisfies-of_append values (layer_of setting encoding zero)
-        (goal_of setting encoding zero) sat in
+    (goal_of setting encoding zero) sat in
     let goal = goal_holds setting encoding zero values parts.1 in
     record {
       start = start_holds setting encoding values parts.0;
       steps = λ r below. absurd (omega arith);
-      goals = λ s within. let same : zero
-      ≡ s = omega arith in subst (λ k. AllHold facts (goal_needs_all setting k)) same goal;
+      goals = λ s within.
+          let same : zero ≡ s = omega arith in
+          subst (λ k. AllHold facts (goal_needs_all setting k)) same goal;
     }
 parts_hold all setting encoding (suc r) values is small sat =
     let parts = Satisfies-of_append values (encoding_of setting encoding r)
-        (part_of setting encoding (suc r)) sat in
+    (part_of setting encoding (suc r)) sat in
     let last = Satisfies-of_append values (layer_of setting encoding (suc r))
-        (goal_of setting encoding (suc r)) parts.1 in
+    (goal_of setting encoding (suc r)) parts.1 in
     one_more setting (facts_of setting encoding values) r
     (parts_hold all setting encoding r values is (small_before setting r (suc r) (omega arith) small) parts.0)
     (layer_holds all setting encoding r values is small last.0)
@@ -158,7 +160,7 @@ goal_satisfied : (setting : SettingValue) (encoding : Encoding) (facts : Facts) 
 unfolding goal_of vars_of
 goal_satisfied setting encoding facts t values says h =
     clauses_satisfied (vars_of setting encoding t) facts values (goal_needs_all setting t) says
-        (goal_is_ready setting encoding t) h
+    (goal_is_ready setting encoding t) h
 
 start_satisfied : (setting : SettingValue) (encoding : Encoding) (facts : Facts) (values : Valuation)
     → IsSetting setting → IsSmall setting zero
@@ -167,7 +169,7 @@ start_satisfied : (setting : SettingValue) (encoding : Encoding) (facts : Facts)
 unfolding layer_of vars_of
 start_satisfied setting encoding facts values is small says h =
     clauses_satisfied (vars_of setting encoding zero) facts values (start_clauses setting) says
-        (start_is_ready setting encoding zero is small) h
+    (start_is_ready setting encoding zero is small) h
 
 layer_extended : EncodingsLimit
     → (setting : SettingValue) (encoding : Encoding) (facts : Facts) (r : ℕ) (values : Valuation)
@@ -175,12 +177,13 @@ layer_extended : EncodingsLimit
     → IsSmall setting (suc r) → Says (numbering_of setting encoding) facts values
     → StepHolds setting facts r (suc r)
     → Extended values (first_helper (numbering_of setting encoding) (suc r))
-    (first_helper (numbering_of setting encoding) (suc r) +
-        (sizes_at (numbering_of setting encoding) (suc r)).helpers) (layer_of setting encoding (suc r))
+    (first_helper (numbering_of setting encoding) (suc r)
+    + (sizes_at (numbering_of setting encoding) (suc r)).helpers)
+    (layer_of setting encoding (suc r))
 unfolding layer_of vars_of
 layer_extended all setting encoding facts r values is small says h =
     step_extended all (vars_of setting encoding (suc r)) setting facts r (suc r) values
-        (step_is_ready setting encoding r is small) says h
+    (step_is_ready setting encoding r is small) says h
 
 -- the next part's helpers are in no earlier clause
 next_satisfied : EncodingsLimit → (setting : SettingValue) (encoding : Encoding) (facts : Facts) (r : ℕ)
@@ -203,11 +206,11 @@ next_satisfied all setting encoding facts r is small so_far step goal =
       says = says;
       satisfies = Satisfies-append more.other (encoding_of setting encoding r)
           (part_of setting encoding (suc r))
-      (Satisfies-below first end so_far.values more.other
-      (encoding_of setting encoding r) more.agree earlier so_far.satisfies)
-      (Satisfies-append more.other (layer_of setting encoding (suc r))
-      (goal_of setting encoding (suc r)) more.satisfies
-        (goal_satisfied setting encoding facts (suc r) more.other says goal));
+          (Satisfies-below first end so_far.values more.other
+          (encoding_of setting encoding r) more.agree earlier so_far.satisfies)
+          (Satisfies-append more.other (layer_of setting encoding (suc r))
+          (goal_of setting encoding (suc r)) more.satisfies
+          (goal_satisfied setting encoding facts (suc r) more.other says goal));
     }
 
 parts_satisfied : EncodingsLimit
@@ -222,9 +225,9 @@ parts_satisfied all setting encoding facts last zero is small h within =
       says = says;
       satisfies = Satisfies-append (values_of n facts) (layer_of setting encoding zero)
           (goal_of setting encoding zero)
-      (start_satisfied setting encoding facts (values_of n facts) is
-      (small_before setting zero last within small) says h.start)
-      (goal_satisfied setting encoding facts zero (values_of n facts) says (h.goals zero within));
+          (start_satisfied setting encoding facts (values_of n facts) is
+          (small_before setting zero last within small) says h.start)
+          (goal_satisfied setting encoding facts zero (values_of n facts) says (h.goals zero within));
     }
 parts_satisfied all setting encoding facts last (suc r) is small h within =
     next_satisfied all setting encoding facts r is (small_before setting (suc r) last within small)
@@ -239,7 +242,7 @@ use_said : (setting : SettingValue) (encoding : Encoding) (facts : Facts) (value
 unfolding numbering_of
 use_said setting encoding facts values c s says there from_1 =
     claim_said (numbering_of setting encoding) facts values (so (use_item c s)) says
-        (use_has_number (numbering_of setting encoding) c s there (omega arith))
+    (use_has_number (numbering_of setting encoding) c s there (omega arith))
 
 pub schedules_fit : EncodingsLimit → (setting : SettingValue) (encoding : Encoding) (t : ℕ)
     → IsSetting setting → IsSmall setting t
@@ -255,5 +258,6 @@ schedules_fit all setting encoding t is small have uses steps plays long =
         clauses = found.satisfies;
         goal = claim_said n facts found.values (so (goal_item t)) found.says (goal_has_number n t) ∙ h.goal;
       };
-      uses = λ c s there from_1 within. use_said setting encoding facts found.values c s found.says there from_1 ∙ uses steps c s;
+      uses = λ c s there from_1 within.
+          use_said setting encoding facts found.values c s found.says there from_1 ∙ uses steps c s;
     }

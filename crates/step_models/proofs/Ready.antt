@@ -1,12 +1,11 @@
 -- All families and lists of a part have items of the encoding.
-use Rattle.std.proofs.Common.{◌≡◌, ℕ, zero, suc, ◌+◌, ◌^◌, ◌<◌, ◌≤◌, refl, sym, ap, ◌∙◌, arith}
-use Rattle.trap_model.specs.Build.{IsTrap}
+use Rattle.std.proofs.Common.{◌≡◌, ℕ, suc, ◌+◌, refl, arith}
 use Rattle.trap_model.proofs.Within.{channels_within}
 use Rattle.step_rules.specs.Setting.{SettingValue}
 use Rattle.step_vars.specs.declared.encoding.Encoding.{Encoding}
 use Rattle.step_vars.specs.Numbering.{sizes_at, first_helper}
 use Rattle.step_vars.specs.Families.{goal_needs_all}
-use Rattle.step_vars.specs.Encoding.{VarsValue, IsSmall, vars_of, numbering_of, helper_count, step_helpers, place_bounds, passing_clauses, activity_bounds, order_clauses, operation_clauses, start_clauses}
+use Rattle.step_vars.specs.Encoding.{VarsValue, IsSmall, vars_of, numbering_of, helper_count, place_bounds, passing_clauses, activity_bounds, order_clauses, operation_clauses, start_clauses}
 use Rattle.step_vars.proofs.StepHelpers.{place_helpers, activity_helpers}
 use Rattle.step_facts.specs.Run.{IsSetting}
 use Rattle.step_clauses.specs.Encoded.{IsEncodedClause, AreEncodedClauses, AreEncodedBounds}
@@ -22,8 +21,8 @@ pub record IsReady (v : VarsValue) (setting : SettingValue) (r t : ℕ) : Type 0
   pub activities : AreEncodedBounds v (second_first v setting t) (activity_bounds setting t)
   pub orders : AreEncodedClauses v (order_clauses setting r t)
   pub operations : AreEncodedClauses v (operation_clauses setting r t)
-  pub helpers : helper_count v.encoding (place_bounds setting t) + helper_count v.encoding
-      (activity_bounds setting t) ≡ (sizes_at v.numbering t).helpers
+  pub helpers : helper_count v.encoding (place_bounds setting t)
+      + helper_count v.encoding (activity_bounds setting t) ≡ (sizes_at v.numbering t).helpers
   pub last : t ≡ v.steps
 
 pub are_vars : (setting : SettingValue) (encoding : Encoding) (t : ℕ) → IsSmall setting t
@@ -42,7 +41,7 @@ step_is_ready setting encoding r is small =
     let step : IsStep v r (suc r) = record { next = omega arith; last = omega arith } in
     let room = helpers_fit setting encoding (suc r) is.trap small in
     let others = all_append_back (IsEncodedClause v) (order_clauses setting r (suc r))
-        (operation_clauses setting r (suc r)) (others_ready v setting r (suc r) vars within step) in
+    (operation_clauses setting r (suc r)) (others_ready v setting r (suc r) vars within step) in
     record {
       places = places_ready v setting r (suc r) vars is.trap within step room;
       passing = passing_ready v setting r (suc r) vars within step;
@@ -50,8 +49,8 @@ step_is_ready setting encoding r is small =
           (second_first v setting (suc r)) vars is.trap within step room refl;
       orders = others.0;
       operations = others.1;
-      helpers = omega
-          (arith, place_helpers setting encoding (suc r), activity_helpers setting encoding (suc r));
+      helpers =
+          omega (arith, place_helpers setting encoding (suc r), activity_helpers setting encoding (suc r));
       last = refl;
     }
 
@@ -60,7 +59,7 @@ pub start_is_ready : (setting : SettingValue) (encoding : Encoding) (t : ℕ) �
     → AreEncodedClauses (vars_of setting encoding t) (start_clauses setting)
 start_is_ready setting encoding t is small =
     start_ready (vars_of setting encoding t) setting (are_vars setting encoding t small)
-        (channels_within setting.trap is.trap)
+    (channels_within setting.trap is.trap)
 
 pub goal_is_ready : (setting : SettingValue) (encoding : Encoding) (t : ℕ)
     → AreEncodedClauses (vars_of setting encoding t) (goal_needs_all setting t)

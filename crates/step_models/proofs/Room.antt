@@ -1,30 +1,26 @@
 -- A setting within the limits of exact mode has few variables.
-use Rattle.std.proofs.Common.{◌≡◌, ℕ, zero, suc, ◌+◌, ◌-◌, ◌*◌, ◌^◌, ◌<◌, ◌≤◌, Bool, true, false, cond, List, [], ◌∷◌, ◌++◌, length, map, refl, sym, ap, ◌∙◌, subst, arith, inl, inr, length-append}
+use Rattle.std.proofs.Common.{◌≡◌, ℕ, zero, suc, ◌+◌, ◌-◌, ◌*◌, ◌^◌, ◌≤◌, Bool, List, [], ◌∷◌, length, map, refl, ap, subst, arith, inl, inr, length-append}
 use Rattle.std.specs.Prelude.{filter}
 use Rattle.std.specs.List.{flat_map, range_with_len}
 use Rattle.std.proofs.lemmas.Bool.{cases_lt, cond_both}
-use Rattle.std.proofs.lemmas.List.FromFn.{length-map-range_with_len}
 use Rattle.std.proofs.Math.ListN.{length-map}
 use Rattle.std.proofs.Math.Nat.{mul-le-mul_left, mul-le-mul_right}
-use Rattle.circuit_core.specs.Order.{is_performed}
 use Rattle.trap_model.specs.Trap.{place_count}
 use Rattle.trap_model.specs.Channels.{channels_of, is_through}
-use Rattle.trap_model.specs.declared.channel.Channel.{Channel}
 use Rattle.trap_model.specs.Build.{IsTrap}
 use Rattle.trap_model.proofs.Count.{few_channels}
 use Rattle.step_rules.specs.Setting.{SettingValue}
+use Rattle.circuit_core.specs.Order.{is_performed}
 use Rattle.step_rules.specs.Guards.{is_able_for}
-use Rattle.step_vars.specs.declared.cells.Cell.{Cell}
 use Rattle.step_vars.specs.declared.encoding.Encoding.{Encoding}
 use Rattle.step_vars.specs.declared.item.Bound.{Bound}
 use Rattle.step_vars.specs.Items.{use_item}
 use Rattle.step_vars.specs.Lists.{cell, between, ion_count, ions_of, places_of, junctions_of, zones_of, pairs_of, performed, able_zones, able_ops, acts_of, touches, numbers_where}
 use Rattle.step_vars.specs.Families.{bound, one_place, few_ions, one_places, few_ions_each, activities_at, one_activity_each, one_crossing_each}
 use Rattle.step_vars.specs.Limits.{fresh_for}
-use Rattle.step_vars.specs.Numbering.{Numbering, first_sizes, later_sizes, sizes_at, part_size, before, first_helper}
-use Rattle.step_vars.specs.Encoding.{IsSmall, helper_count, place_bounds, activity_bounds, step_helpers, numbering_of}
+use Rattle.step_vars.specs.Numbering.{Numbering, later_sizes, sizes_at, part_size, before, first_helper}
+use Rattle.step_vars.specs.Encoding.{IsSmall, helper_count, place_bounds, activity_bounds, numbering_of}
 use Rattle.step_vars.proofs.Numbers.{before_closed, before_next}
-use Rattle.step_vars.proofs.Inverse.{before_mono}
 use Rattle.step_vars.proofs.Limited.{places_counted, ions_counted, zone_counted, slot_counted, crossing_counted}
 use Rattle.step_vars.proofs.HelperCounts.{helper_count-append, fresh_one_few, fresh_few}
 
@@ -34,7 +30,7 @@ filter_few : {A : Type 0} (p : A → Bool) (xs : List A) → length (filter p xs
 filter_few p [] = omega arith
 filter_few p (x ∷ xs) =
     cond_both (p x) (x ∷ filter p xs) (filter p xs) (λ ys. length ys ≤ suc (length xs))
-        (λ _. omega (arith, filter_few p xs)) (λ _. omega (arith, filter_few p xs))
+    (λ _. omega (arith, filter_few p xs)) (λ _. omega (arith, filter_few p xs))
 
 flat_map_few : {A B : Type 0} (f : A → List B) (m : ℕ) (xs : List A) → ((x : A) → length (f x) ≤ m)
     → length (flat_map f xs) ≤ length xs * m
@@ -55,16 +51,22 @@ few_pairs ions h =
 
 few_performed : (setting : SettingValue) → length (performed setting.circuit) ≤ length setting.circuit.ops
 few_performed setting =
-    omega (arith, filter_few (is_performed setting.circuit)
-        (range_with_len 0 (length setting.circuit.ops)), range_long 0 (length setting.circuit.ops))
+    omega (
+      arith,
+      filter_few (is_performed setting.circuit) (range_with_len 0 (length setting.circuit.ops)),
+      range_long 0 (length setting.circuit.ops),
+    )
 
 few_acts : (setting : SettingValue) → length setting.circuit.ops ≤ 200 → length setting.trap.zones ≤ 32
     → length (acts_of setting) ≤ 200 * 32
 few_acts setting ops zones =
     let rows = flat_map_few (λ g. map (cell g) (able_zones setting g)) 32 (performed setting.circuit)
-    (λ g. omega
-    (arith, length-map (able_zones setting g) (cell g), filter_few (λ z. is_able_for setting z g)
-    (zones_of setting), range_long 0 (length setting.trap.zones))) in
+    (λ g. omega (
+      arith,
+      length-map (able_zones setting g) (cell g),
+      filter_few (λ z. is_able_for setting z g) (zones_of setting),
+      range_long 0 (length setting.trap.zones),
+    )) in
     omega (arith, rows, few_performed setting)
 
 -- ---- helpers
@@ -79,11 +81,10 @@ few_activities : (setting : SettingValue) (p : ℕ) → IsTrap setting.trap → 
     → length setting.circuit.ops ≤ 200
     → length (activities_at setting 1 p) ≤ 2504
 few_activities setting p trap ions ops =
-    let passing : length (filter (touches p) (channels_of setting.trap))
-    ≤ 2048 = omega (arith, filter_few (touches p) (channels_of setting.trap), few_channels setting.trap trap) in
-    let able : length (able_ops setting p)
-    ≤ 200 = omega
-        (arith, filter_few (is_able_for setting p) (performed setting.circuit), few_performed setting) in
+    let passing : length (filter (touches p) (channels_of setting.trap)) ≤ 2048 =
+    omega (arith, filter_few (touches p) (channels_of setting.trap), few_channels setting.trap trap) in
+    let able : length (able_ops setting p) ≤ 200 =
+    omega (arith, filter_few (is_able_for setting p) (performed setting.circuit), few_performed setting) in
     elim (cases_lt p (length setting.trap.zones)) [
       | inl zone ↦ omega (arith, zone_counted setting 1 p zone, few_pairs (ion_count setting) ions)
       | inr slot ↦ omega (arith, slot_counted setting 1 p slot)
@@ -93,9 +94,12 @@ few_place_helpers : (setting : SettingValue) (encoding : Encoding) (steps : ℕ)
     → helper_count encoding (place_bounds setting 1) ≤ 16 * 48 + 48 * 256
 few_place_helpers setting encoding steps small =
     let places = helpers_few encoding (one_place setting 1) 48 (ions_of setting)
-    (λ i. omega
-    (arith, fresh_one_few encoding
-    (length (one_place setting 1 i).items), places_counted setting 1 i, small.places)) in
+    (λ i. omega (
+      arith,
+      fresh_one_few encoding (length (one_place setting 1 i).items),
+      places_counted setting 1 i,
+      small.places,
+    )) in
     let ions = helpers_few encoding (few_ions setting 1) 256 (places_of setting)
     (λ p. fresh_few encoding (length (few_ions setting 1 p).items) (few_ions setting 1 p).limit
     (omega (arith, ions_counted setting 1 p, small.ions))) in
@@ -115,15 +119,21 @@ few_activity_helpers : (setting : SettingValue) (encoding : Encoding) (steps : �
     → helper_count encoding (activity_bounds setting 1) ≤ 48 * 2504 + 32 * 2048
 few_activity_helpers setting encoding steps trap small =
     let crossing = λ (junction : ℕ). bound 1
-        (map (λ c. use_item c 1) (numbers_where (is_through junction) setting)) in
+    (map (λ c. use_item c 1) (numbers_where (is_through junction) setting)) in
     let places = helpers_few encoding (λ p. bound 1 (activities_at setting 1 p)) 2504 (places_of setting)
-    (λ p. omega
-    (arith, fresh_one_few encoding
-    (length (activities_at setting 1 p)), few_activities setting p trap small.ions small.ops)) in
+    (λ p. omega (
+      arith,
+      fresh_one_few encoding (length (activities_at setting 1 p)),
+      few_activities setting p trap small.ions small.ops,
+    )) in
     let junctions = helpers_few encoding crossing 2048 (junctions_of setting)
-    (λ j. omega
-    (arith, fresh_one_few encoding (length (crossing j).items), crossing_counted setting 1 j, filter_few
-    (is_through j) (channels_of setting.trap), few_channels setting.trap trap)) in
+    (λ j. omega (
+      arith,
+      fresh_one_few encoding (length (crossing j).items),
+      crossing_counted setting 1 j,
+      filter_few (is_through j) (channels_of setting.trap),
+      few_channels setting.trap trap,
+    )) in
     omega (
       arith,
       places,
@@ -179,14 +189,14 @@ variables_fit setting encoding t trap small =
     let parts = product_few t later 48 (2 ^ 20) small.time (small_part setting encoding t trap small) in
     let next : suc t ≡ t + 1 = omega arith in
     subst (λ k. before n k ≤ 2 ^ 31) next
-        (omega (arith, before_closed n t, parts, small_part setting encoding t trap small))
+    (omega (arith, before_closed n t, parts, small_part setting encoding t trap small))
 
 pub helpers_within : (n : Numbering) (t : ℕ) → first_helper n t + (sizes_at n t).helpers ≤ before n (t + 1)
 helpers_within n t = omega (arith, before_next n t)
 
 pub helpers_fit : (setting : SettingValue) (encoding : Encoding) (t : ℕ) → IsTrap setting.trap
     → IsSmall setting t
-    → first_helper (numbering_of setting encoding) t +
-        (sizes_at (numbering_of setting encoding) t).helpers ≤ 2 ^ 31
+    → first_helper (numbering_of setting encoding) t
+    + (sizes_at (numbering_of setting encoding) t).helpers ≤ 2 ^ 31
 helpers_fit setting encoding t trap small =
     omega (arith, helpers_within (numbering_of setting encoding) t, variables_fit setting encoding t trap small)

@@ -1,5 +1,5 @@
 -- Clauses of claims, as an assignment sees them.
-use Rattle.std.proofs.Common.{◌≡◌, ℕ, ◌+◌, ◌-◌, ◌<◌, ◌≤◌, cond, not, true, false, Some, List, [], ◌∷◌, map, refl, sym, ap, ◌∙◌, subst, arith, inl, inr}
+use Rattle.std.proofs.Common.{◌≡◌, ℕ, ◌+◌, ◌-◌, ◌≤◌, cond, not, false, Some, List, [], ◌∷◌, map, refl, sym, ap, ◌∙◌, arith, inl, inr}
 use Rattle.std.specs.Prelude.{IsSome}
 use Rattle.std.specs.Option.{option_map_or}
 use Rattle.std.specs.List.{AllByRecursion}
@@ -8,13 +8,12 @@ use Rattle.sat_base.specs.Clauses.{EachVariable, NameOnly}
 use Rattle.sat_base.specs.Truth.{Valuation, is_true, SatisfiesClause, Satisfies, AgreeExcept}
 use Rattle.step_vars.specs.declared.item.Item.{Item}
 use Rattle.step_vars.specs.declared.item.Claim.{Claim}
-use Rattle.step_vars.specs.Items.{time_of, so}
 use Rattle.step_vars.specs.ItemOf.{item_of as item_numbered}
 use Rattle.step_vars.specs.Numbering.{Numbering, number_of, literal_of, before, sizes_at, first_helper}
 use Rattle.step_vars.specs.Encoding.{VarsValue, clause_of, clauses_of}
 use Rattle.step_vars.proofs.Inverse.{number_to_item, number_within, number_from_1, helper_is_no_item}
 use Rattle.step_facts.specs.Facts.{Facts, holds, SomeHolds, AllHold}
-use Rattle.step_clauses.specs.Encoded.{IsEncoded, IsEncodedClause, AreEncodedClauses, item_of}
+use Rattle.step_clauses.specs.Encoded.{IsEncoded, AreEncodedClauses, item_of}
 use Rattle.step_clauses.proofs.Literals.{number_is}
 use Rattle.step_models.specs.Models.{facts_by}
 
@@ -48,14 +47,14 @@ says_kept n facts t end values other says same agree = record {
           absurd (helper_is_no_item n t (var - first_helper n t) item (omega arith) (e ∙ ap Some place))
       | inr above ↦ sym (agree.above var above) ∙ says.each item var e
     ]
-  ]
+  ];
 }
 
 pub claim_said : (n : Numbering) (facts : Facts) (values : Valuation) (claim : Claim) → Says n facts values
     → IsSome (number_of n claim.item) → is_true values (literal_of n claim) ≡ holds facts claim
 claim_said n facts values claim says has =
     ap (λ b. cond claim.positive b (not b))
-        (says.each claim.item (literal_of n claim).var (number_is n claim has))
+    (says.each claim.item (literal_of n claim).var (number_is n claim has))
 
 -- ---- from facts to values
 
@@ -97,9 +96,10 @@ clauses_hold n values (clause ∷ clauses) h =
 pub item_own : (v : VarsValue) (claim : Claim) → IsEncoded v claim.item
     → IsOwn v.numbering v.steps (literal_of v.numbering claim).var
 item_own v claim h =
-    let number = number_is v.numbering claim h.number in
-    (number_from_1 v.numbering claim.item (literal_of v.numbering claim).var number,
-    number_within v.numbering claim.item (literal_of v.numbering claim).var v.steps number h.time)
+    let number = number_is v.numbering claim h.number in (
+      number_from_1 v.numbering claim.item (literal_of v.numbering claim).var number,
+      number_within v.numbering claim.item (literal_of v.numbering claim).var v.steps number h.time,
+    )
 
 clause_own : (v : VarsValue) (claims : List Claim) → AllByRecursion (IsEncoded v) (map item_of claims)
     → EachVariable (IsOwn v.numbering v.steps) (clause_of v.numbering claims)
