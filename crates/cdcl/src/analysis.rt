@@ -127,14 +127,14 @@ impl Analysis {
     }
 
     // Resolves with the line that forced a literal.
-    fn resolve(&mut self, log: &Log, literal: Lit, line: LineId) -> Result<(), NoMemory>
-        requires { IsLine log.now line }
-        ensures clause { OnOk result (IsJoined self.old.clause (clause_of log.now line) literal self.new.clause) }
-        ensures chain { OnOk result (self.new.chain ≡ self.old.chain ++ line ∷ []) }
+    fn resolve(&mut self, log: &Log, literal: Lit, reason: LineId) -> Result<(), NoMemory>
+        requires { IsLine log.now reason }
+        ensures clause { OnOk result (IsJoined self.old.clause (clause_of log.now reason) literal self.new.clause) }
+        ensures chain { OnOk result (self.new.chain ≡ self.old.chain ++ reason ∷ []) }
     {
         self.clause.remove(literal.negated());
-        self.clause.add_others(log.clause(line), literal)?;
-        self.chain.push(line)?;
+        self.clause.add_others(log.clause(reason), literal)?;
+        self.chain.push(reason)?;
         Ok(())
     }
 
