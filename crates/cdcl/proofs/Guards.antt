@@ -459,11 +459,14 @@ look_line log trail kept link line falsified other at = (
   at.watched.stored.has (other_link link) line other falsified (pair_turned kept link line falsified other at.pair),
 )
 
--- all pairs of the link are that one
-pub held_by : (log : Lines) (trail : Trail) (kept : Kept) (link : ℕ) (line : LineId) (falsified other : Literal) (set : List Literal) → AtLink log trail kept link line falsified other → Has set other → (l : LineId) (b : Literal) → IsPair kept link l falsified b → Has set b
-held_by log trail kept link line falsified other set at holds l b pair =
-    let same : other ≡ b = same_some other b (sym at.pair.other ∙ pair.other) in
+-- all pairs of the link are of that other literal
+pub held_other : (kept : Kept) (link : ℕ) (falsified other : Literal) (set : List Literal) → slice_get kept.literals (other_link link) ≡ Some other → Has set other → (l : LineId) (b : Literal) → IsPair kept link l falsified b → Has set b
+held_other kept link falsified other set is holds l b pair =
+    let same : other ≡ b = same_some other b (sym is ∙ pair.other) in
     subst (Has set) same holds
+
+pub held_by : (log : Lines) (trail : Trail) (kept : Kept) (link : ℕ) (line : LineId) (falsified other : Literal) (set : List Literal) → AtLink log trail kept link line falsified other → Has set other → (l : LineId) (b : Literal) → IsPair kept link l falsified b → Has set b
+held_by log trail kept link line falsified other set at holds l b pair = held_other kept link falsified other set at.pair.other holds l b pair
 
 -- a place without a line has no pairs
 pub held_empty : (kept : Kept) (link : ℕ) (falsified : Literal) (set : List Literal) → slice_get kept.lines (link / 2) ≡ Some None → (l : LineId) (b : Literal) → IsPair kept link l falsified b → Has set b
@@ -477,9 +480,9 @@ held_empty kept link falsified set none l b pair = absurd (none_is_some l (same_
 pub last_has : (entries : List Assigned) (entry : Assigned) → Has (literals_of (entries ++ entry ∷ [])) entry.literal
 last_has entries entry = Has-after entries (entry ∷ []) entry.literal (inl refl)
 
-pub open_here : (set : List Literal) (literal : Literal) (is denied : Bool) (against : Literal) → (IsTrue is ↔ Has set literal) → (IsTrue denied ↔ Has set against) → against ≡ negated literal → is ≡ false → denied ≡ false → IsOpen set literal
-open_here set literal is denied against yes_it no_it same off out =
-    open_or_not set literal (λ h. both_ways denied out (no_it.1 (subst (Has set) (sym same) h))) (λ h. both_ways is off (yes_it.1 h))
+pub open_here : (set : List Literal) (literal : Literal) (denied : Bool) (against : Literal) → (Has set literal → ⊥) → (IsTrue denied ↔ Has set against) → against ≡ negated literal → denied ≡ false → IsOpen set literal
+open_here set literal denied against not_true no_it same out =
+    open_or_not set literal (λ h. both_ways denied out (no_it.1 (subst (Has set) (sym same) h))) not_true
 
 pub one_assigned : (log : Lines) (old new : Trail) (literal : Literal) (line : LineId) (clause : List Literal) → IsLine log line → Has (clause_of log line) literal → IsOpen (literals_of old.entries) literal → clause ≡ clause_of log line
     → ((other : Literal) → Has clause other → other ≢ literal → Has (literals_of old.entries) (negated other)) → new ≡ assigned old literal (Some line) → Propagates log old new

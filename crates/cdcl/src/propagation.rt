@@ -53,18 +53,16 @@ fn free_literal(values: &Values, clause: &[Lit], except: Lit) -> Option<Lit>
     None
 }
 
-// Looks at a line one of whose watched literals is false: the other one is true, or is forced and added, or is
-// false as all others; or another literal may be watched.
+// Looks at a line one of whose watched literals is false and the other one not true: that one is forced and added, or
+// is false as all others; or another literal may be watched.
 fn look(log: &Log, values: &mut Values, line: LineId, other: Lit) -> Looked
     requires named { NameOnly (λ var. var ≤ values.old.vars) (clauses_in log.now) }
     requires is_line { IsLine log.now line }
     requires has { Has (clause_of log.now line) other }
+    requires not_true { Has (literals_of values.old.entries) other → ⊥ }
     ensures propagates { Propagates log.now values.old values.new }
     ensures comes { IsLooked log.now line other values.old values.new result }
 {
-    if values.is_true(other) {
-        return Looked::Kept;
-    }
     if let Some(to) = free_literal(values, log.clause(line), other) {
         return Looked::Moved(to);
     }
@@ -96,10 +94,13 @@ fn step(
 {
     watching.linked.tied();
     let _order = values.entries();
+    let other = watching.linked.literal(other_link(link));
+    if values.has_true(other) {
+        return Stepped::Kept;
+    }
     let Some(line) = watching.lines[(link / 2) as usize] else {
         return Stepped::Kept;
     };
-    let other = watching.linked.literal(other_link(link));
     match look(log, values, line, other) {
         Looked::Kept => Stepped::Kept,
         Looked::Falsified(line) => Stepped::Falsified(line),

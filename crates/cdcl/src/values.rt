@@ -150,6 +150,14 @@ impl Values {
         }
     }
 
+    /// Whether a literal is true, where its variable is one of these; else the answer is no.
+    pub(crate) fn has_true(&self, literal: Lit) -> bool
+        ensures yes { IsTrue result → Has (literals_of self.now.entries) literal }
+        ensures no { literal.var ≤ self.now.vars → Has (literals_of self.now.entries) literal → IsTrue result }
+    {
+        literal.var() <= self.vars() && self.is_true(literal)
+    }
+
     /// The current level.
     pub(crate) fn level(&self) -> u32
         ensures { result ≡ self.now.level }

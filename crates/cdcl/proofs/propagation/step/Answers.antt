@@ -1,9 +1,11 @@
-use Rattle.std.proofs.Common.{◌≡◌, ℕ, ◌≤◌, ◌<◌, ◌/◌, length, refl, sym, subst, arith}
+use Rattle.std.proofs.Common.{◌≡◌, ℕ, ◌≤◌, ◌<◌, ◌/◌, Some, length, refl, sym, subst, arith}
+use Rattle.std.specs.Prelude.{slice_get}
+use Rattle.std.proofs.lemmas.Bool.{both_ways}
 use Rattle.sat_base.proofs.Clauses.{EachVariable-has}
 use Rattle.cdcl.specs.Trail.{Trail, literals_of}
 use Rattle.cdcl.specs.Watching.{Kept, kept_of, AreWatched}
 use Rattle.cdcl.proofs.Lines.{named_line}
-use Rattle.cdcl.proofs.Guards.{with_literal, can_move, look_line, held_by, held_empty, moved_differs, watched_moved, watched_propagated}
+use Rattle.cdcl.proofs.Guards.{with_literal, can_move, look_line, held_by, held_other, held_empty, moved_differs, watched_moved, watched_propagated}
 use Rattle.cdcl.proofs.Stepping.{at_link, has_list, own_link, own_place, own_other, empty_slot}
 use Rattle.cdcl.proofs.propagation.step.Goals as goal
 
@@ -42,6 +44,21 @@ look-requires-clause-has c =
     let at = at_link c.args.log.now c.args.values.now (kept_of c.args.watching.now) c.args.watching.now.linked.watched c.args.falsified c.literal-other.result c.args.before c.args.link c.other_link.result c.in-Some.line c.index.result.now c.requires.watched c.entries-order.ensures.named c.entries-order.ensures.order
     c.requires.falsified refl c.tied.ensures.tied c.requires.follows c.index.ensures c.in-Some.is c.other_link.ensures c.literal-other.ensures in
     (look_line c.args.log.now c.args.values.now (kept_of c.args.watching.now) c.args.link c.in-Some.line c.args.falsified c.literal-other.result at).1
+
+pub look-requires-clause-not_true : goal.look-requires-clause-not_true
+look-requires-clause-not_true c =
+    let at = at_link c.args.log.now c.args.values.now (kept_of c.args.watching.now) c.args.watching.now.linked.watched c.args.falsified c.literal-other.result c.args.before c.args.link c.other_link.result c.in-Some.line c.index.result.now c.requires.watched c.entries-order.ensures.named c.entries-order.ensures.order
+    c.requires.falsified refl c.tied.ensures.tied c.requires.follows c.index.ensures c.in-Some.is c.other_link.ensures c.literal-other.ensures in
+    let is = look_line c.args.log.now c.args.values.now (kept_of c.args.watching.now) c.args.link c.in-Some.line c.args.falsified c.literal-other.result at in
+    let named = EachVariable-has (λ var. var ≤ c.args.values.now.vars) _ c.literal-other.result (named_line (λ var. var ≤ c.args.values.now.vars) c.args.log.now c.in-Some.line c.requires.named) is.1 in
+    λ holds. both_ways c.has_true.result c.if-has_true.false (c.has_true.ensures.no named holds)
+
+pub returns-then-has_true-clause-comes : goal.returns-then-has_true-clause-comes
+returns-then-has_true-clause-comes c =
+    let kept = kept_of c.args.watching.now in
+    let set = literals_of c.args.values.now.entries in
+    let own = c.literal-other.ensures in
+    record { same = refl; holds = held_other kept c.args.link c.args.falsified c.literal-other.result set (subst (λ (n : ℕ). slice_get kept.literals n ≡ Some c.literal-other.result) c.other_link.ensures own) (c.has_true.ensures.yes c.if-has_true.true) }
 
 pub relink-requires-clause-literal : goal.relink-requires-clause-literal
 relink-requires-clause-literal c = has_list c.args.log.now c.args.values.now (kept_of c.args.watching.now) c.args.falsified c.requires.watched c.entries-order.ensures.named c.requires.falsified
