@@ -14,15 +14,15 @@ use Rattle.sat_base.proofs.Resolving.{negated-negated}
 use Rattle.derivation_log.specs.declared.line_id.LineId.{LineId}
 use Rattle.derivation_log.specs.Log.{Derived, Lines, log_of, axiom_id, derived_id, IsLine, clause_of}
 use Rattle.derivation_log.proofs.Logs.{IsLine-more, clause_of-more}
-use Rattle.cdcl.specs.declared.values.Assigned.{Assigned}
+use Rattle.solver_trail.specs.declared.values.Assigned.{Assigned}
 use Rattle.cdcl.specs.declared.watching.Pair.{Pair}
-use Rattle.cdcl.specs.Trail.{Trail, literals_of, up_to, Forces, assigned}
+use Rattle.solver_trail.specs.Trail.{Trail, literals_of, up_to, Forces, assigned, IsFalseAt}
 use Rattle.cdcl.specs.Searching.{IsRest, HasOneLeft}
-use Rattle.cdcl.specs.Learning.{IsFalseAt, IsTarget}
+use Rattle.cdcl.specs.Learning.{IsTarget}
 use Rattle.cdcl.specs.Linked.{other_link}
 use Rattle.cdcl.specs.Watching.{Kept, IsPair, IsAmong, AreStored, IsGuarded, AreWatched, with_slot, IsPairOf, IsNewPair, AddsClause, WatchesTarget, CanWatch, ShortAreTrue, with_done}
 use Rattle.cdcl.proofs.Links.{get_left, get_within, get_past, other_cases, other_within}
-use Rattle.cdcl.proofs.Trails.{up_to-push}
+use Rattle.solver_trail.proofs.Trails.{up_to-push}
 use Rattle.cdcl.proofs.Walking.{Has-before, Has-after}
 use Rattle.cdcl.proofs.Soundness.{up_to-lower, open_up_to, Has-up_to}
 use Rattle.cdcl.proofs.Learning.{Found, asserted_open, new_line, new_line_is_line}

@@ -6,11 +6,11 @@ use Rattle.sat_base.specs.Clauses.{Has}
 use Rattle.sat_base.specs.Fresh.{IsOpen}
 use Rattle.sat_base.proofs.Clauses.{EachVariable-has}
 use Rattle.derivation_log.specs.Log.{Lines}
-use Rattle.cdcl.specs.declared.values.Assigned.{Assigned}
-use Rattle.cdcl.specs.Trail.{Trail, literals_of, up_to, last_level, AreInOrder, assigned}
+use Rattle.solver_trail.specs.declared.values.Assigned.{Assigned}
+use Rattle.solver_trail.specs.Trail.{Trail, literals_of, up_to, last_level, AreInOrder, assigned}
 use Rattle.cdcl.specs.Solver.{SolverState, Propagates}
 use Rattle.cdcl.specs.Searching.{ChangesTrailOnly, IsAssumed, IsDenied}
-use Rattle.cdcl.proofs.Trails.{up_to_keeps, up_to_drops, up_to-all}
+use Rattle.solver_trail.proofs.Trails.{up_to_keeps, up_to_drops, up_to-all}
 use Rattle.cdcl.proofs.Walking.{Has-before, Has-after, order_consistent}
 
 pub record IsDown (old now : SolverState) (assumption : Literal) : Type 0 where

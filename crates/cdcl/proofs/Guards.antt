@@ -11,15 +11,15 @@ use Rattle.sat_base.proofs.Sets.{has_or_not, open_or_not}
 use Rattle.sat_base.proofs.Resolving.{negated-negated}
 use Rattle.derivation_log.specs.declared.line_id.LineId.{LineId}
 use Rattle.derivation_log.specs.Log.{Lines, log_of, IsLine, clause_of}
-use Rattle.cdcl.specs.declared.values.Assigned.{Assigned}
+use Rattle.solver_trail.specs.declared.values.Assigned.{Assigned}
 use Rattle.cdcl.specs.Clauses.{clauses_of_kind, clauses_in}
-use Rattle.cdcl.specs.Trail.{Trail, literals_of, up_to, last_level, AreInOrder, IsClosed, assigned}
+use Rattle.solver_trail.specs.Trail.{Trail, literals_of, up_to, last_level, AreInOrder, IsClosed, assigned}
 use Rattle.cdcl.specs.Solver.{IsSound, Propagates}
-use Rattle.cdcl.specs.Status.{IsUnit}
+use Rattle.solver_trail.specs.Status.{IsUnit}
 use Rattle.cdcl.specs.Linked.{other_link}
 use Rattle.cdcl.specs.Watching.{Kept, nothing_kept, IsPair, IsShort, IsAmong, AreStored, IsGuarded, AreWatched, ShortAreTrue, AllHold, IsFree, with_done}
 use Rattle.cdcl.proofs.Links.{get_left, get_there, get_set_same, get_set_other, other_half, other_other, other_differs, other_within}
-use Rattle.cdcl.proofs.Trails.{up_to-push, up_to-all, Has-standing}
+use Rattle.solver_trail.proofs.Trails.{up_to-push, up_to-all, Has-standing}
 use Rattle.cdcl.proofs.Lines.{length-kind}
 use Rattle.cdcl.proofs.Propagating.{closed_both, Propagates-one}
 use Rattle.std.proofs.lemmas.Bool.{both_ways}

@@ -12,12 +12,12 @@ use Rattle.sat_base.proofs.Resolving.{leads_alike, one_result}
 use Rattle.derivation_log.specs.declared.line_id.LineId.{LineId}
 use Rattle.derivation_log.specs.Log.{Derived, Lines, log_of, derived_id, clauses_of, IsLine, clause_of, chain_of}
 use Rattle.cdcl.specs.Clauses.{clauses_in}
-use Rattle.cdcl.specs.declared.values.Assigned.{Assigned}
-use Rattle.cdcl.specs.Trail.{Trail, literals_of, up_to, last_level, AreInOrder, IsFalse, Forces, IsClosed, AreForced, assigned}
-use Rattle.cdcl.specs.Learning.{Chained, IsResolved, HasNoTrue, IsFalseAt, IsAsserting, IsTarget, IsReduced}
+use Rattle.solver_trail.specs.declared.values.Assigned.{Assigned}
+use Rattle.solver_trail.specs.Trail.{Trail, literals_of, up_to, last_level, AreInOrder, IsFalse, Forces, IsClosed, AreForced, assigned, IsFalseAt}
+use Rattle.cdcl.specs.Learning.{Chained, IsResolved, HasNoTrue, IsAsserting, IsTarget, IsReduced}
 use Rattle.cdcl.specs.Solver.{IsSound}
 use Rattle.cdcl.proofs.Lines.{named_line}
-use Rattle.cdcl.proofs.Trails.{up_to-push, AreInOrder-take, read_at}
+use Rattle.solver_trail.proofs.Trails.{up_to-push, AreInOrder-take, read_at}
 use Rattle.std.proofs.lemmas.Option.{same_Some, slice_get_within}
 use Rattle.std.specs.Prelude.{slice_get}
 use Rattle.sat_base.proofs.Sets.{cases_literal}

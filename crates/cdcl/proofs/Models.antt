@@ -13,10 +13,10 @@ use Rattle.sat_base.proofs.Clauses.{EachVariable-has}
 use Rattle.sat_base.proofs.Truth.{SatisfiesClause-has}
 use Rattle.derivation_log.specs.Log.{clauses_of}
 use Rattle.cdcl.specs.Clauses.{clauses_in}
-use Rattle.cdcl.specs.declared.values.Assigned.{Assigned}
-use Rattle.cdcl.specs.Trail.{Trail, literals_of, value_in, values_of, AreInOrder, IsClosed, IsUnassigned}
+use Rattle.solver_trail.specs.declared.values.Assigned.{Assigned}
+use Rattle.solver_trail.specs.Trail.{Trail, literals_of, value_in, values_of, AreInOrder, IsClosed, IsUnassigned}
 use Rattle.cdcl.specs.Solver.{SolverState, IsSound, IsModel}
-use Rattle.cdcl.proofs.Trails.{value_open}
+use Rattle.solver_trail.proofs.Trails.{value_open}
 use Rattle.cdcl.proofs.Lines.{NameOnly-parts}
 use Rattle.cdcl.proofs.Walking.{apart_after, Has-after}
 

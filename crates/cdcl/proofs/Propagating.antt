@@ -8,11 +8,11 @@ use Rattle.sat_base.proofs.Clauses.{EachVariable-has}
 use Rattle.derivation_log.specs.declared.line_id.LineId.{LineId}
 use Rattle.derivation_log.specs.Log.{Lines, clauses_of, IsLine, clause_of}
 use Rattle.cdcl.specs.Clauses.{clauses_of_kind, clauses_in}
-use Rattle.cdcl.specs.declared.values.Assigned.{Assigned}
-use Rattle.cdcl.specs.Trail.{Trail, literals_of, value_in, AreForced, IsClosed, assigned}
-use Rattle.cdcl.specs.Status.{IsUnit}
+use Rattle.solver_trail.specs.declared.values.Assigned.{Assigned}
+use Rattle.solver_trail.specs.Trail.{Trail, literals_of, value_in, AreForced, IsClosed, assigned}
+use Rattle.solver_trail.specs.Status.{IsUnit}
 use Rattle.cdcl.specs.Solver.{Propagates}
-use Rattle.cdcl.proofs.Trails.{append_none, value_open}
+use Rattle.solver_trail.proofs.Trails.{append_none, value_open}
 use Rattle.cdcl.proofs.Lines.{named_line}
 
 pub AreForced-append : (log : Lines) (before xs ys : List Assigned) → AreForced log before xs → AreForced log (before ++ xs) ys → AreForced log before (xs ++ ys)

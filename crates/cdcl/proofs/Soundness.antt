@@ -12,11 +12,10 @@ use Rattle.derivation_log.specs.declared.line_id.LineId.{LineId}
 use Rattle.derivation_log.specs.Log.{Derived, Lines, log_of, clauses_of, IsLine, clause_of}
 use Rattle.derivation_log.proofs.Logs.{IsLine-more, clause_of-more}
 use Rattle.cdcl.specs.Clauses.{clauses_in}
-use Rattle.cdcl.specs.declared.values.Assigned.{Assigned}
-use Rattle.cdcl.specs.Trail.{Trail, literals_of, up_to, last_level, AreInOrder, Forces, IsClosed, IsForced, AreForced, assigned}
-use Rattle.cdcl.specs.Learning.{IsFalseAt}
+use Rattle.solver_trail.specs.declared.values.Assigned.{Assigned}
+use Rattle.solver_trail.specs.Trail.{Trail, literals_of, up_to, last_level, AreInOrder, Forces, IsClosed, IsForced, AreForced, assigned, IsFalseAt}
 use Rattle.cdcl.specs.Solver.{IsSound, Propagates}
-use Rattle.cdcl.proofs.Trails.{append_none, up_to_keeps, up_to_drops, up_to-push, up_to-all}
+use Rattle.solver_trail.proofs.Trails.{append_none, up_to_keeps, up_to_drops, up_to-push, up_to-all}
 use Rattle.cdcl.proofs.Propagating.{AreForced-append}
 use Rattle.cdcl.proofs.Walking.{AreForced-parts, Has-negated_at, order_one_level, order_consistent}
 use Rattle.cdcl.proofs.Lines.{NameOnly-parts}

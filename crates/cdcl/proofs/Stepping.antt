@@ -11,7 +11,7 @@ use Rattle.derivation_log.specs.Log.{Lines}
 use Rattle.watch_lists.specs.Watched.{Watched, IsAdded, EachLinkOnce, list_of}
 use Rattle.watch_lists.specs.Chains.{IsIn, Follows}
 use Rattle.cdcl.specs.Linked.{IsTied, other_link}
-use Rattle.cdcl.specs.Trail.{Trail, literals_of, AreInOrder}
+use Rattle.solver_trail.specs.Trail.{Trail, literals_of, AreInOrder}
 use Rattle.cdcl.specs.Watching.{Kept, IsPair, AreStored, AreWatched, AllHold}
 use Rattle.cdcl.proofs.Links.{IsIn_middle, IsIn-left, around, once_in, begins, no_item, other_other, other_within, follows_split}
 use Rattle.cdcl.proofs.Guards.{AtLink, SamePairs, pair_same, pair_turned, with_literal, relinked}

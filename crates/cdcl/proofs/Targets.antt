@@ -5,10 +5,10 @@ use Rattle.sat_base.specs.Literal.{Literal, negated}
 use Rattle.sat_base.specs.Clauses.{Has}
 use Rattle.sat_base.proofs.Clauses.{Has-append_left}
 use Rattle.sat_base.proofs.Sets.{Has-push, Has-pushed}
-use Rattle.cdcl.specs.declared.values.Assigned.{Assigned}
-use Rattle.cdcl.specs.Trail.{literals_of, up_to, last_level, AreInOrder, IsFalse}
-use Rattle.cdcl.specs.Learning.{IsFalseAt, IsAsserting, IsTarget}
-use Rattle.cdcl.proofs.Trails.{up_to_keeps, up_to_drops}
+use Rattle.solver_trail.specs.declared.values.Assigned.{Assigned}
+use Rattle.solver_trail.specs.Trail.{literals_of, up_to, last_level, AreInOrder, IsFalse, IsFalseAt}
+use Rattle.cdcl.specs.Learning.{IsAsserting, IsTarget}
+use Rattle.solver_trail.proofs.Trails.{up_to_keeps, up_to_drops}
 use Rattle.cdcl.proofs.Walking.{at_some_level, order_one_level, level_below_last}
 
 -- what is false at a level up to the target stays false there

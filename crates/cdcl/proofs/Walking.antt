@@ -13,10 +13,10 @@ use Rattle.sat_base.proofs.Resolving.{negated-negated}
 use Rattle.sat_base.proofs.Sets.{cases_literal, Has-push}
 use Rattle.derivation_log.specs.declared.line_id.LineId.{LineId}
 use Rattle.derivation_log.specs.Log.{Lines, IsLine, clause_of, chain_of}
-use Rattle.cdcl.specs.declared.values.Assigned.{Assigned}
-use Rattle.cdcl.specs.Trail.{Trail, literals_of, last_level, level_after, IsNext, AreInOrder, Forces, IsForced, AreForced}
-use Rattle.cdcl.specs.Learning.{Chained, IsResolved, HasNoTrue, IsFalseAt, CanResolve, IsKept, IsVisited, IsReduced}
-use Rattle.cdcl.proofs.Trails.{append_none, last_level-push, level_after-within, level_rises, AreInOrder-parts, AreInOrder-take, not_own_negation}
+use Rattle.solver_trail.specs.declared.values.Assigned.{Assigned}
+use Rattle.solver_trail.specs.Trail.{Trail, literals_of, last_level, level_after, IsNext, AreInOrder, Forces, IsForced, AreForced, IsFalseAt}
+use Rattle.cdcl.specs.Learning.{Chained, IsResolved, HasNoTrue, CanResolve, IsKept, IsVisited, IsReduced}
+use Rattle.solver_trail.proofs.Trails.{append_none, last_level-push, level_after-within, level_rises, AreInOrder-parts, AreInOrder-take, not_own_negation}
 use Rattle.cdcl.proofs.Propagating.{All-append}
 
 -- ---- trails in two parts

@@ -6,8 +6,8 @@ use Rattle.sat_base.specs.Resolution.{Leads, ResolveTo, IsJoined}
 use Rattle.sat_base.specs.Fresh.{IsOpen}
 use Rattle.derivation_log.specs.Log.{Lines, IsLine, clause_of, chain_of}
 use Rattle.derivation_log.specs.declared.line_id.LineId.{LineId}
-use Rattle.cdcl.specs.declared.values.Assigned.{Assigned}
-use Rattle.cdcl.specs.Trail.{Trail, literals_of, up_to, IsFalse}
+use Rattle.solver_trail.specs.declared.values.Assigned.{Assigned}
+use Rattle.solver_trail.specs.Trail.{Trail, literals_of, up_to, IsFalse, IsFalseAt}
 
 -- a clause, and the lines that it comes from, in the order of resolution
 pub record Chained : Type 0 where
@@ -27,12 +27,6 @@ pub record IsResolved (log : Lines) (set : List Literal) (chained : Chained) : T
 -- no literal of the clause is true
 abbrev pub HasNoTrue : List Literal → List Literal → Type 0
 HasNoTrue set clause = (literal : Literal) → Has clause literal → Has set literal → ⊥
-
--- the literal's negation was assigned at that level
-abbrev pub IsFalseAt : List Assigned → ℕ → Literal → Type 0
-IsFalseAt [] level literal = ⊥
-IsFalseAt (entry ∷ entries) level literal =
-    ((entry.literal ≡ negated literal) × (entry.level ≡ level)) ⊎ IsFalseAt entries level literal
 
 -- another literal of the clause is false at that level
 pub record HasAnotherAt (entries : List Assigned) (level : ℕ) (clause : List Literal) (literal : Literal)

@@ -1,9 +1,5 @@
-pub mod Trail
 pub mod Clauses
 pub mod Solver
-pub mod Status
-pub mod Storing
-pub mod Queue
 pub mod Linked
 pub mod Watching
 pub mod Learning

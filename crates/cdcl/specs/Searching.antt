@@ -7,7 +7,7 @@ use Rattle.sat_base.specs.Fresh.{IsOpen, IsFreshOver}
 use Rattle.derivation_log.specs.Log.{Lines, Derived, log_of, derived_id}
 use Rattle.derivation_log.specs.declared.line_id.LineId.{LineId}
 use Rattle.cdcl.specs.Clauses.{clauses_in}
-use Rattle.cdcl.specs.Trail.{Trail, literals_of, up_to, IsUnassigned}
+use Rattle.solver_trail.specs.Trail.{Trail, literals_of, up_to, IsUnassigned}
 use Rattle.cdcl.specs.Solver.{SolverState, IsFalsified, IsModel}
 use Rattle.cdcl.specs.declared.solver.Conflict.{Conflict}
 use Rattle.cdcl.specs.declared.solver.Conflict.TheVariants.{Falsified, Denied}

@@ -8,8 +8,8 @@ use Rattle.sat_base.specs.Fresh.{IsFreshOver}
 use Rattle.derivation_log.specs.Log.{Lines, Derived, log_of, IsLine, clause_of, clauses_of}
 use Rattle.derivation_log.specs.declared.line_id.LineId.{LineId}
 use Rattle.cdcl.specs.Clauses.{clauses_in}
-use Rattle.cdcl.specs.Trail.{Trail, literals_of, up_to, back_to, values_of, AreForced, IsClosed, IsFalse}
-use Rattle.cdcl.specs.declared.values.Assigned.{Assigned}
+use Rattle.solver_trail.specs.Trail.{Trail, literals_of, up_to, back_to, values_of, AreForced, IsClosed, IsFalse}
+use Rattle.solver_trail.specs.declared.values.Assigned.{Assigned}
 use Rattle.cdcl.specs.declared.verdict.Verdict.{Verdict}
 use Rattle.cdcl.specs.declared.verdict.Verdict.TheVariants.{Model, Refuted, Spent}
 

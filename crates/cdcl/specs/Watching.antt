@@ -6,13 +6,12 @@ use Rattle.sat_base.specs.Fresh.{HasTrue}
 use Rattle.derivation_log.specs.Log.{Lines, IsLine, clause_of}
 use Rattle.derivation_log.specs.declared.line_id.LineId.{LineId}
 use Rattle.watch_lists.specs.Watched.{list_of}
-use Rattle.cdcl.specs.Trail.{Trail, literals_of, up_to}
+use Rattle.solver_trail.specs.Trail.{Trail, literals_of, up_to, IsFalseAt}
 use Rattle.cdcl.specs.Solver.{IsFalsified}
 use Rattle.cdcl.specs.Linked.{Linked, other_link}
 use Rattle.cdcl.specs.declared.watching.Watching.{Watching}
 use Rattle.cdcl.specs.declared.watching.Pair.{Pair}
-use Rattle.cdcl.specs.declared.values.Assigned.{Assigned}
-use Rattle.cdcl.specs.Learning.{IsFalseAt}
+use Rattle.solver_trail.specs.declared.values.Assigned.{Assigned}
 use Rattle.cdcl.specs.declared.propagation.Looked.{Looked}
 use Rattle.cdcl.specs.declared.propagation.Looked.TheVariants.{Kept as LookedKept, Moved as LookedMoved, Falsified as LookedFalsified}
 use Rattle.cdcl.specs.declared.propagation.Stepped.{Stepped}

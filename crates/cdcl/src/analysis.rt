@@ -6,17 +6,17 @@ ghost use Rattle.sat_base.specs.Clauses.{Has, SameLiterals, NameOnly};
 ghost use Rattle.sat_base.specs.Resolution.{IsJoined, ResolveTo};
 ghost use Rattle.derivation_log.specs.Log.{chain_of, clause_of, IsLine};
 ghost use Rattle.cdcl.specs.Clauses.{clauses_in};
-ghost use Rattle.cdcl.specs.Trail.{literals_of, IsFalse, AreForced};
+ghost use Rattle.solver_trail.specs.Trail.{literals_of, IsFalse, AreForced, IsFalseAt};
 ghost use Rattle.cdcl.specs.Solver.{IsSound};
 ghost use Rattle.cdcl.specs.Learning.{Chained, IsResolved, IsVisited, IsReduced, IsTarget, IsResolvent};
 ghost use Rattle.cdcl.specs.Watching.{IsPairOf, WatchesTarget};
-ghost use Rattle.cdcl.specs.Learning.{IsFalseAt, HasNoTrue, HasAnotherAt, HasAnother, CanResolve, IsKept, IsAsserting};
+ghost use Rattle.cdcl.specs.Learning.{HasNoTrue, HasAnotherAt, HasAnother, CanResolve, IsKept, IsAsserting};
 
-use crate::values::{Assigned, Values};
 use crate::watching::Pair;
 use derivation_log::{LineId, Log};
 use qc_base::NoMemory;
 use sat_base::{Lit, LitSet};
+use solver_trail::{Assigned, Values};
 use std::alloc::Global;
 use std::marker::Model;
 

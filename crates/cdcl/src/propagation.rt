@@ -7,16 +7,15 @@ ghost use Rattle.derivation_log.specs.Log.{IsLine, clause_of};
 ghost use Rattle.watch_lists.specs.Chains.{Follows};
 ghost use Rattle.watch_lists.specs.Watched.{list_of};
 ghost use Rattle.cdcl.specs.Clauses.{clauses_in};
-ghost use Rattle.cdcl.specs.Trail.{literals_of, IsClosed};
+ghost use Rattle.solver_trail.specs.Trail.{literals_of, IsClosed};
 ghost use Rattle.cdcl.specs.Solver.{Propagates, IsFalsified};
 ghost use Rattle.cdcl.specs.Watching.{kept_of, AreWatched, ShortAreTrue, IsFree, IsLooked, IsStepped, MovesLinks, AllHold, IsAmong, IsShort};
 
 use crate::linked::other_link;
-use crate::status::{Status, status_of};
-use crate::values::Values;
 use crate::watching::Watching;
 use derivation_log::{LineId, Log};
 use sat_base::Lit;
+use solver_trail::{Status, Values, status_of};
 
 /// What a look at a line comes to.
 #[derive(Clone, Copy, Debug)]

@@ -7,7 +7,7 @@ ghost use Rattle.sat_base.specs.Derivation.{Refutes, AnyRefutes};
 ghost use Rattle.sat_base.specs.Fresh.{IsFreshOver};
 ghost use Rattle.derivation_log.specs.Log.{Derived, log_of, clause_of, clauses_of, IsLine};
 ghost use Rattle.cdcl.specs.Clauses.{clauses_in};
-ghost use Rattle.cdcl.specs.Trail.{literals_of, back_to, value_in, values_of, assigned, IsClosed, IsInOrder};
+ghost use Rattle.solver_trail.specs.Trail.{literals_of, back_to, value_in, values_of, assigned, IsClosed, IsInOrder};
 ghost use Rattle.cdcl.specs.Solver.{SolverState, empty_solver, with_trail, with_vars, with_clause, out_of_memory};
 ghost use Rattle.cdcl.specs.Solver.{Propagates, IsFalsified, Learns, IsRefuting, IsModel, IsVerdict};
 ghost use Rattle.cdcl.specs.Searching.{ChangesTrailOnly, IsAssumed, IsConflict, AddsLine, IsLearnt, IsRest, IsDenied};
@@ -16,15 +16,14 @@ ghost use Rattle.cdcl.specs.Watching.{IsPairOf};
 ghost use Rattle.cdcl.specs.Learning.{HasNoTrue};
 
 use crate::analysis::Analysis;
-use crate::pick::Pick;
 use crate::propagation::propagate_all;
 use crate::restarts::Restarts;
-use crate::values::Values;
 use crate::verdict::Verdict;
 use crate::watching::{Pair, Watching};
 use derivation_log::{LineId, Log};
 use qc_base::NoMemory;
 use sat_base::Lit;
+use solver_trail::{Pick, Values};
 use std::alloc::Global;
 use std::marker::Model;
 

@@ -3,7 +3,7 @@
 ghost use Rattle.std.specs.Prelude.{◌≡◌, ◌<◌, ◌^◌, ◌≤◌, true, [], length, IfOk, OnOk, IfSome, IfNone, ℕ};
 ghost use Rattle.sat_base.specs.Literal.{positive_of};
 ghost use Rattle.sat_base.specs.Clauses.{HasDistinctVariables, EachVariable};
-ghost use Rattle.cdcl.specs.Trail.{IsUnassigned};
+ghost use Rattle.solver_trail.specs.Trail.{IsUnassigned};
 ghost use Rattle.cdcl.specs.Solver.{empty_solver, with_vars, IsVerdict};
 
 use crate::{Pick, Recent, Solver, Values, Verdict};

@@ -3,10 +3,11 @@ use Rattle.sat_base.specs.Literal.{Literal}
 use Rattle.sat_base.specs.Clauses.{Has}
 use Rattle.sat_base.proofs.Sets.{Has-get_or, Has-push, more_literals}
 use Rattle.sat_base.proofs.LitSets.{different_literals, equal_literals}
-use Rattle.cdcl.specs.Learning.{IsFalseAt, HasAnotherAt}
+use Rattle.cdcl.specs.Learning.{HasAnotherAt}
 use Rattle.std.proofs.lemmas.Bool.{both_ways}
 use Rattle.cdcl.proofs.analysis.has_another.Goals.{then-is_false_at+else-ne, else-is_false_at}
 use Rattle.cdcl.proofs.analysis.has_another.Goals as goal
+use Rattle.solver_trail.specs.Trail.{IsFalseAt}
 
 pub is_false_at-requires : goal.is_false_at-requires
 is_false_at-requires c = c.requires c.other-item.result (Has-get_or c.args.clause.now c.loop-other.other-index c.other-item.result c.loop-other-test.true c.other-item.is)

@@ -3,9 +3,9 @@ use Rattle.sat_base.specs.Literal.{Literal}
 use Rattle.sat_base.specs.Clauses.{Has}
 use Rattle.sat_base.proofs.Sets.{Has-get_or, Has-push, more_literals}
 use Rattle.sat_base.proofs.LitSets.{different_literals, equal_literals}
-use Rattle.cdcl.specs.Learning.{IsFalseAt}
 use Rattle.cdcl.proofs.analysis.other_at.Goals.{then-level_of-level+else-ne, else-level_of-level}
 use Rattle.cdcl.proofs.analysis.other_at.Goals as goal
+use Rattle.solver_trail.specs.Trail.{IsFalseAt}
 
 pub level_of-requires : goal.level_of-requires
 level_of-requires c = c.requires c.other-item.result (Has-get_or c.args.clause.now c.loop-other.other-index c.other-item.result c.loop-other-test.true c.other-item.is)

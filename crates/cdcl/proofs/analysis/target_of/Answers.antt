@@ -2,10 +2,10 @@ use Rattle.std.proofs.Common.{◌≡◌, ◌≢◌, ℕ, ◌+◌, List, [], ◌�
 use Rattle.std.proofs.lemmas.List.{take_all}
 use Rattle.sat_base.specs.Literal.{Literal}
 use Rattle.sat_base.proofs.Sets.{Has-get_or, Has-take, more_literals}
-use Rattle.cdcl.specs.Learning.{IsFalseAt}
 use Rattle.cdcl.proofs.Targets.{TargetSoFar, target_asserting, target_lower, target_end}
 use Rattle.cdcl.proofs.analysis.target_of.Goals.{then-level, else-level}
 use Rattle.cdcl.proofs.analysis.target_of.Goals as goal
+use Rattle.solver_trail.specs.Trail.{IsFalseAt}
 
 pub level_of-level-requires : goal.level_of-level-requires
 level_of-level-requires c = c.requires.falsified c.literal-item.result (Has-get_or c.args.clause.now c.loop-literal.literal-index c.literal-item.result c.loop-literal-test.true c.literal-item.is)

@@ -5,7 +5,7 @@ use Rattle.sat_base.proofs.Clauses.{EachVariable-has}
 use Rattle.sat_base.proofs.Sets.{Has-get_or, Has-push, more_literals}
 use Rattle.sat_base.proofs.LitSets.{different_literals, equal_literals}
 use Rattle.std.proofs.lemmas.Bool.{both_ways}
-use Rattle.cdcl.specs.Trail.{literals_of}
+use Rattle.solver_trail.specs.Trail.{literals_of}
 use Rattle.cdcl.proofs.propagation.free_literal.Goals.{then-not-is_true+else-ne, else-not-is_true}
 use Rattle.cdcl.proofs.propagation.free_literal.Goals as goal
 

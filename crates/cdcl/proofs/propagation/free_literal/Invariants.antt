@@ -1,7 +1,7 @@
 use Rattle.std.proofs.Common.{◌≢◌, take}
 use Rattle.sat_base.specs.Literal.{Literal, negated}
 use Rattle.sat_base.specs.Clauses.{Has}
-use Rattle.cdcl.specs.Trail.{literals_of}
+use Rattle.solver_trail.specs.Trail.{literals_of}
 use Rattle.cdcl.proofs.propagation.free_literal.Given as goal
 
 abbrev pub invariant-loop-literal : goal.invariant-loop-literal

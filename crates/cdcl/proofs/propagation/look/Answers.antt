@@ -2,8 +2,8 @@ use Rattle.std.proofs.Common.{◌≤◌, Some, sym, subst}
 use Rattle.sat_base.specs.Literal.{Literal}
 use Rattle.sat_base.specs.Clauses.{Has, EachVariable}
 use Rattle.sat_base.proofs.Clauses.{EachVariable-has}
-use Rattle.cdcl.specs.Trail.{Trail, literals_of}
-use Rattle.cdcl.proofs.Trails.{value_open}
+use Rattle.solver_trail.specs.Trail.{Trail, literals_of}
+use Rattle.solver_trail.proofs.Trails.{value_open}
 use Rattle.cdcl.proofs.Lines.{named_line}
 use Rattle.cdcl.proofs.Guards.{open_here, one_assigned, last_has}
 use Rattle.cdcl.proofs.propagation.look.Goals as goal

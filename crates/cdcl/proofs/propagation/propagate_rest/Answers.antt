@@ -1,7 +1,7 @@
 use Rattle.std.proofs.Common.{◌<◌, List, length, slice_get, sym, ap, ◌∙◌, subst}
 use Rattle.sat_base.specs.Literal.{Literal, negated}
-use Rattle.cdcl.specs.declared.values.Assigned.{Assigned}
-use Rattle.cdcl.specs.Trail.{literals_of}
+use Rattle.solver_trail.specs.declared.values.Assigned.{Assigned}
+use Rattle.solver_trail.specs.Trail.{literals_of}
 use Rattle.cdcl.specs.Watching.{kept_of, AllHold}
 use Rattle.cdcl.proofs.Propagating.{Propagates-trans, named_after}
 use Rattle.cdcl.proofs.Guards.{entry_at, entry_true, still_at, watched_one_more}

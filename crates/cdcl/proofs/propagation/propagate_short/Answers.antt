@@ -5,8 +5,8 @@ use Rattle.sat_base.specs.Clauses.{EachVariable}
 use Rattle.sat_base.specs.Fresh.{HasTrue, HasTwoOpen}
 use Rattle.derivation_log.specs.declared.line_id.LineId.{LineId}
 use Rattle.derivation_log.specs.Log.{clause_of}
-use Rattle.cdcl.specs.Trail.{literals_of, IsFalse, assigned}
-use Rattle.cdcl.specs.Status.{IsUnit}
+use Rattle.solver_trail.specs.Trail.{literals_of, IsFalse, assigned}
+use Rattle.solver_trail.specs.Status.{IsUnit}
 use Rattle.cdcl.proofs.Lines.{named_line}
 use Rattle.cdcl.proofs.Propagating.{Propagates-one, Propagates-trans, unit_unassigned, named_after}
 use Rattle.cdcl.proofs.Guards.{short_true, short_grown, unit_true}

@@ -1,6 +1,6 @@
 use Rattle.std.proofs.Common.{take}
 use Rattle.cdcl.specs.Solver.{Propagates}
-use Rattle.cdcl.specs.Trail.{literals_of}
+use Rattle.solver_trail.specs.Trail.{literals_of}
 use Rattle.cdcl.specs.Watching.{ShortAreTrue}
 use Rattle.cdcl.proofs.propagation.propagate_short.Given as goal
 

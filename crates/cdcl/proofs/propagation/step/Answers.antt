@@ -2,7 +2,7 @@ use Rattle.std.proofs.Common.{◌≡◌, ℕ, ◌≤◌, ◌<◌, ◌/◌, Some,
 use Rattle.std.specs.Prelude.{slice_get}
 use Rattle.std.proofs.lemmas.Bool.{both_ways}
 use Rattle.sat_base.proofs.Clauses.{EachVariable-has}
-use Rattle.cdcl.specs.Trail.{Trail, literals_of}
+use Rattle.solver_trail.specs.Trail.{Trail, literals_of}
 use Rattle.cdcl.specs.Watching.{Kept, kept_of, AreWatched}
 use Rattle.cdcl.proofs.Lines.{named_line}
 use Rattle.cdcl.proofs.Guards.{with_literal, can_move, look_line, held_by, held_other, held_empty, moved_differs, watched_moved, watched_propagated}

@@ -2,7 +2,7 @@ use Rattle.std.proofs.Common.{◌<◌, Some, refl, sym, ap, ◌∙◌, subst, ar
 use Rattle.std.proofs.lemmas.Option.{slice_get_within}
 use Rattle.sat_base.specs.Literal.{negated}
 use Rattle.watch_lists.specs.Watched.{IsAdded, list_of}
-use Rattle.cdcl.specs.Trail.{literals_of}
+use Rattle.solver_trail.specs.Trail.{literals_of}
 use Rattle.cdcl.specs.Linked.{Linked}
 use Rattle.cdcl.specs.Watching.{kept_of}
 use Rattle.cdcl.proofs.Propagating.{Propagates-none, Propagates-trans, named_after}

@@ -1,6 +1,6 @@
 use Rattle.watch_lists.specs.Watched.{IsAdded, list_of}
 use Rattle.cdcl.specs.Solver.{Propagates}
-use Rattle.cdcl.specs.Trail.{literals_of}
+use Rattle.solver_trail.specs.Trail.{literals_of}
 use Rattle.cdcl.specs.Watching.{AreWatched, MovesLinks, kept_of}
 use Rattle.cdcl.proofs.Stepping.{Walked, left}
 use Rattle.cdcl.proofs.propagation.walk.Given as goal

@@ -1,7 +1,7 @@
 use Rattle.std.proofs.Common.{Bool, Some, inr, subst}
-use Rattle.cdcl.specs.Trail.{literals_of}
-use Rattle.cdcl.specs.Status.{HasTruth}
-use Rattle.cdcl.proofs.Trails.{value_none}
+use Rattle.solver_trail.specs.Trail.{literals_of}
+use Rattle.solver_trail.specs.Status.{HasTruth}
+use Rattle.solver_trail.proofs.Trails.{value_none}
 use Rattle.cdcl.proofs.solver.choose.Goals as goal
 
 pub returns-in-Some : goal.returns-in-Some

@@ -1,6 +1,6 @@
 use Rattle.std.proofs.Common.{◌≤◌, List, length, take, sym, ap, subst}
-use Rattle.cdcl.specs.declared.values.Assigned.{Assigned}
-use Rattle.cdcl.specs.Trail.{literals_of}
+use Rattle.solver_trail.specs.declared.values.Assigned.{Assigned}
+use Rattle.solver_trail.specs.Trail.{literals_of}
 use Rattle.cdcl.specs.Learning.{HasNoTrue}
 use Rattle.cdcl.proofs.Walking.{order_consistent}
 use Rattle.cdcl.proofs.Learning.{resolved_start, false_none_true, same_named, take_whole, asserting_left}

@@ -2,10 +2,11 @@ use Rattle.std.proofs.Common.{◌≢◌, List, Option, sym, ap, ◌∙◌, subst
 use Rattle.sat_base.specs.Literal.{Literal}
 use Rattle.sat_base.specs.Clauses.{Has}
 use Rattle.cdcl.specs.declared.watching.Pair.{Pair}
-use Rattle.cdcl.specs.Learning.{Chained, IsFalseAt}
+use Rattle.cdcl.specs.Learning.{Chained}
 use Rattle.cdcl.specs.Watching.{IsPairOf}
 use Rattle.cdcl.proofs.Adding.{no_other}
 use Rattle.cdcl.proofs.analysis.Analysis.pair.Goals as goal
+use Rattle.solver_trail.specs.Trail.{IsFalseAt}
 
 pub returns-in_err-second-clause-pair : goal.returns-in_err-second-clause-pair
 returns-in_err-second-clause-pair c =

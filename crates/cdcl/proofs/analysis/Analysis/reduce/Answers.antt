@@ -1,6 +1,6 @@
 use Rattle.std.proofs.Common.{◌≡◌, ℕ, ◌-◌, ◌≤◌, List, get_or, take, drop, subst, arith}
-use Rattle.cdcl.specs.declared.values.Assigned.{Assigned}
-use Rattle.cdcl.specs.Trail.{literals_of}
+use Rattle.solver_trail.specs.declared.values.Assigned.{Assigned}
+use Rattle.solver_trail.specs.Trail.{literals_of}
 use Rattle.cdcl.proofs.Walking.{Walk, walk_end, walk_back, walk_named, reason_is_line, EachVariable-take}
 use Rattle.cdcl.proofs.analysis.Analysis.reduce.Goals as goal
 

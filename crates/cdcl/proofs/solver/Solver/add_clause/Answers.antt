@@ -2,7 +2,7 @@ use Rattle.std.proofs.Common.{◌≡◌, ℕ, ◌≤◌, ◌++◌, sym, ap, ◌�
 use Rattle.sat_base.specs.Clauses.{EachVariable}
 use Rattle.sat_base.proofs.Clauses.{EachVariable-has}
 use Rattle.derivation_log.specs.Log.{Lines}
-use Rattle.cdcl.specs.Trail.{Trail}
+use Rattle.solver_trail.specs.Trail.{Trail}
 use Rattle.cdcl.specs.Solver.{SolverState, IsSound}
 use Rattle.cdcl.specs.Watching.{Kept, kept_of, AreWatched, with_done}
 use Rattle.cdcl.proofs.Soundness.{sound_back, sound_axiom}

@@ -1,5 +1,5 @@
 use Rattle.std.proofs.Common.{◌+◌, sym, subst, arith}
-use Rattle.cdcl.specs.Trail.{Trail}
+use Rattle.solver_trail.specs.Trail.{Trail}
 use Rattle.cdcl.specs.Solver.{IsSound}
 use Rattle.cdcl.specs.Watching.{AreWatched, kept_of}
 use Rattle.cdcl.proofs.Soundness.{sound_vars}

@@ -1,6 +1,6 @@
 use Rattle.std.proofs.Common.{◌≡◌, ℕ, ◌≤◌, ◌++◌, length, sym, ap, ◌∙◌, subst}
 use Rattle.std.specs.Prelude.{min}
-use Rattle.cdcl.specs.Trail.{Trail, up_to}
+use Rattle.solver_trail.specs.Trail.{Trail, up_to}
 use Rattle.cdcl.specs.Solver.{SolverState, IsSound}
 use Rattle.cdcl.specs.Watching.{Kept, kept_of, AreWatched, with_done}
 use Rattle.cdcl.proofs.Soundness.{sound_back}

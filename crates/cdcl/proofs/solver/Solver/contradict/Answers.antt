@@ -1,7 +1,7 @@
 use Rattle.std.proofs.Common.{List, [], length, sym, ap, ◌∙◌, subst}
 use Rattle.derivation_log.specs.Log.{clause_of}
-use Rattle.cdcl.specs.declared.values.Assigned.{Assigned}
-use Rattle.cdcl.specs.Trail.{literals_of, AreInOrder}
+use Rattle.solver_trail.specs.declared.values.Assigned.{Assigned}
+use Rattle.solver_trail.specs.Trail.{literals_of, AreInOrder}
 use Rattle.cdcl.specs.Learning.{HasNoTrue}
 use Rattle.cdcl.specs.Solver.{SolverState}
 use Rattle.cdcl.proofs.Walking.{order_consistent}

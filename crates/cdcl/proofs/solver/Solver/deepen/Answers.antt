@@ -1,9 +1,9 @@
 use Rattle.std.proofs.Common.{sym, subst}
-use Rattle.cdcl.specs.Trail.{Trail}
+use Rattle.solver_trail.specs.Trail.{Trail}
 use Rattle.cdcl.specs.Searching.{IsAssumed}
 use Rattle.cdcl.specs.Solver.{SolverState, IsSound}
 use Rattle.cdcl.specs.Watching.{AreWatched, kept_of}
-use Rattle.cdcl.proofs.Trails.{value_open}
+use Rattle.solver_trail.proofs.Trails.{value_open}
 use Rattle.cdcl.proofs.Soundness.{sound_propagated, sound_decided}
 use Rattle.cdcl.proofs.Models.{model_of}
 use Rattle.cdcl.proofs.Descending.{assumed_propagated, chosen_assumed, denied}

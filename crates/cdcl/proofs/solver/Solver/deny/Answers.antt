@@ -2,8 +2,8 @@ use Rattle.std.proofs.Common.{◌≡◌, List, length, get_or, take, ap, ◌∙�
 use Rattle.std.specs.Prelude.{IsSome}
 use Rattle.std.proofs.lemmas.Option.{slice_get_within}
 use Rattle.derivation_log.specs.Log.{IsLine, clause_of}
-use Rattle.cdcl.specs.declared.values.Assigned.{Assigned}
-use Rattle.cdcl.specs.Trail.{literals_of, Forces}
+use Rattle.solver_trail.specs.declared.values.Assigned.{Assigned}
+use Rattle.solver_trail.specs.Trail.{literals_of, Forces}
 use Rattle.cdcl.specs.Learning.{HasNoTrue}
 use Rattle.cdcl.specs.Solver.{SolverState}
 use Rattle.cdcl.proofs.Adding.{forces_one_left}

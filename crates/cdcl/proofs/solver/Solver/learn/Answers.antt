@@ -5,11 +5,11 @@ use Rattle.sat_base.proofs.Clauses.{EachVariable-has}
 use Rattle.derivation_log.specs.declared.line_id.LineId.{LineId}
 use Rattle.derivation_log.specs.Log.{Derived, Lines, log_of, derived_id, clause_of}
 use Rattle.cdcl.specs.Clauses.{clauses_in}
-use Rattle.cdcl.specs.declared.values.Assigned.{Assigned}
-use Rattle.cdcl.specs.Trail.{Trail, literals_of, up_to, value_in, assigned}
+use Rattle.solver_trail.specs.declared.values.Assigned.{Assigned}
+use Rattle.solver_trail.specs.Trail.{Trail, literals_of, up_to, value_in, assigned}
 use Rattle.cdcl.specs.Searching.{IsAssumed}
 use Rattle.cdcl.specs.Solver.{SolverState, IsSound}
-use Rattle.cdcl.proofs.Trails.{value_open}
+use Rattle.solver_trail.proofs.Trails.{value_open}
 use Rattle.std.specs.Prelude.{min}
 use Rattle.cdcl.specs.Watching.{Kept, kept_of, AreWatched, with_slot, with_done}
 use Rattle.cdcl.proofs.Adding.{can_watch, watched_prepared, watched_learnt, adds_derived, pair_same_literals, done_slot}

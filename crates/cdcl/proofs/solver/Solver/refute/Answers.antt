@@ -1,6 +1,6 @@
 use Rattle.std.proofs.Common.{◌≤◌, None, take, sym, ap, ◌∙◌, subst}
 use Rattle.derivation_log.specs.Log.{Derived, Lines, IsLine, clause_of}
-use Rattle.cdcl.specs.Trail.{literals_of}
+use Rattle.solver_trail.specs.Trail.{literals_of}
 use Rattle.cdcl.specs.Searching.{IsRest, HasOneLeft}
 use Rattle.cdcl.specs.Solver.{SolverState, IsSound}
 use Rattle.cdcl.specs.Watching.{kept_of, AreWatched}

@@ -1,6 +1,6 @@
 use Rattle.std.proofs.Common.{Bool, false, Option, ap, ◌∙◌}
 use Rattle.std.specs.Option.{unwrap_or}
-use Rattle.cdcl.specs.Trail.{values_of}
+use Rattle.solver_trail.specs.Trail.{values_of}
 use Rattle.cdcl.specs.Solver.{SolverState}
 use Rattle.cdcl.proofs.Models.{value_or_false}
 use Rattle.cdcl.proofs.solver.Solver.value.Goals as goal

@@ -1,5 +1,0 @@
-use Rattle.std.proofs.Common.{length}
-use Rattle.cdcl.proofs.recent.Recent.most_active.Given as goal
-
-abbrev pub decreases-loop-var : goal.decreases-loop-var
-decreases-loop-var l = length l.self-inside.heap.members

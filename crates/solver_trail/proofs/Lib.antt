@@ -1,0 +1,3 @@
+pub mod Trails
+pub mod Statuses
+pub mod Heaps

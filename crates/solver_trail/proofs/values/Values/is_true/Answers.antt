@@ -1,0 +1,24 @@
+use Rattle.std.proofs.Common.{◌≢◌, Some, Bool, List, refl, ap, subst}
+use Rattle.sat_base.proofs.Clauses.{EachVariable-has}
+use Rattle.solver_trail.specs.Trail.{Trail, literals_of}
+use Rattle.solver_trail.specs.Status.{HasTruth}
+use Rattle.solver_trail.specs.Storing.{ArePlaced}
+use Rattle.solver_trail.specs.declared.values.Assigned.{Assigned}
+use Rattle.solver_trail.proofs.Trails.{placed_consistent}
+use Rattle.solver_trail.proofs.values.Values.is_true.Goals as goal
+
+pub returns-in-Some-false : goal.returns-in-Some-false
+returns-in-Some-false c =
+    let now = c.args.self.now.entries in
+    let placed = subst (λ (xs : List Assigned). ArePlaced xs c.self.inside.places.items) (ap (λ (t : Trail). t.entries) c.self.view_is) c.self.invariant.placed in
+    let truth : HasTruth (literals_of now) c.args.literal (Some c.in-Some-false.field-0) = c.in-Some-false.ensures in
+    let has = subst (λ (b : Bool). HasTruth (literals_of now) c.args.literal (Some b)) c.in-Some-false.field-0-test truth in (
+      λ off. absurd cc,
+      λ holds. absurd (placed_consistent now c.self.inside.places.items placed c.args.literal holds has),
+    )
+
+pub returns-in-None : goal.returns-in-None
+returns-in-None c = (
+  λ off. absurd cc,
+  λ holds. absurd (EachVariable-has (λ var. var ≢ c.args.literal.var) (literals_of c.args.self.now.entries) c.args.literal c.in-None.ensures holds refl),
+)

@@ -1,0 +1,4 @@
+pub mod Trail
+pub mod Status
+pub mod Storing
+pub mod Queue
