@@ -2,3 +2,4 @@ pub mod Log
 pub mod Printing
 pub mod Pieces
 pub mod Place
+pub mod DerivedLines

@@ -1,8 +1,8 @@
 //! A log of a derivation by resolution, and the text of its certificate.
 #![tactic(auto)]
 
+mod derived_lines;
 mod laws;
-mod line;
 mod line_id;
 mod log;
 mod printer;

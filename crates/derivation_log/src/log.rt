@@ -10,7 +10,7 @@ ghost use Rattle.sat_base.specs.Certificate.{certificate_text};
 ghost use Rattle.derivation_log.specs.Log.{Lines, log_of, axiom_id, derived_id, IsLine, clause_of, hints_of, chain_of, IsSound, AddsDerived};
 ghost use Rattle.derivation_log.specs.Printing.{Covers, first_lines};
 
-use crate::line::DerivedLine;
+use crate::derived_lines::DerivedLines;
 use crate::line_id::LineId;
 use crate::printer::Printer;
 use crate::words::Words;
@@ -24,8 +24,10 @@ use std::marker::Model;
 #[derive(Debug, Drop)]
 pub struct Log {
     axioms: Formula,
-    derived: Vec<DerivedLine>,
+    derived: DerivedLines,
+    // What a line is resolved and sorted in.
     resolution: Resolution,
+    clause: Vec<Lit>,
 }
 
 impl Model for Log {
@@ -33,18 +35,18 @@ impl Model for Log {
 
     ghost Value = { Lines };
 
-    ghost view = { λ l. log_of l.axioms l.derived.items };
+    ghost view = { λ l. log_of l.axioms l.derived };
 
-    ghost invariant = { λ l. IsSound (log_of l.axioms l.derived.items) };
+    ghost invariant = { λ l. IsSound (log_of l.axioms l.derived) };
 }
 
 // The clause of a line.
-fn clause_in<'a>(axioms: &'a Formula, derived: &'a [DerivedLine], line: LineId) -> &'a [Lit]
+fn clause_in<'a>(axioms: &'a Formula, derived: &'a DerivedLines, line: LineId) -> &'a [Lit]
     requires { IsLine (log_of axioms.now derived.now) line }
     ensures { result.now ≡ clause_of (log_of axioms.now derived.now) line }
 {
     if line.derived {
-        derived[line.number as usize - 1].clause()
+        derived.clause(line.number)
     } else {
         axioms.clause(line.number)
     }
@@ -54,7 +56,7 @@ fn clause_in<'a>(axioms: &'a Formula, derived: &'a [DerivedLine], line: LineId) 
 fn resolve(
     resolution: &mut Resolution,
     axioms: &Formula,
-    derived: &[DerivedLine],
+    derived: &DerivedLines,
     chain: &[LineId],
 ) -> Result<(), NoMemory>
     requires sound { IsSound (log_of axioms.now derived.now) }
@@ -73,15 +75,16 @@ fn resolve(
     Ok(())
 }
 
-// The literals in the order of their variables.
-fn ascending(alloc: Global, literals: &[Lit]) -> Result<Vec<Lit>, NoMemory>
+// Makes the clause the literals in the order of their variables.
+fn ascending(clause: &mut Vec<Lit>, literals: &[Lit]) -> Result<(), NoMemory>
     requires { HasDistinctVariables literals.now }
-    ensures same { IfOk result (λ clause. SameLiterals literals.now clause.items) }
-    ensures ascending { IfOk result (λ clause. IsAscending clause.items) }
+    ensures same { OnOk result (SameLiterals literals.now clause.new.items) }
+    ensures ascending { OnOk result (IsAscending clause.new.items) }
 {
-    let mut clause = Vec::from_slice(alloc, literals)?;
+    clause.clear();
+    clause.extend_from_slice(literals)?;
     clause.sort_unstable_by_key(|lit| lit.var());
-    Ok(clause)
+    Ok(())
 }
 
 impl Log {
@@ -91,8 +94,9 @@ impl Log {
     {
         Log {
             axioms: Formula::new(alloc),
-            derived: Vec::new(alloc),
+            derived: DerivedLines::new(alloc),
             resolution: Resolution::new(alloc),
+            clause: Vec::new(alloc),
         }
     }
 
@@ -119,14 +123,12 @@ impl Log {
         ensures added { OnOk result (AddsDerived self.old chain.now self.new) }
         ensures err { OnErr result (self.new ≡ self.old) }
     {
-        let alloc = *self.derived.allocator();
         resolve(&mut self.resolution, &self.axioms, &self.derived, chain)?;
-        let clause = ascending(alloc, self.resolution.literals())?;
-        let hints = Vec::from_slice(alloc, chain)?;
-        self.derived.push(DerivedLine { clause, hints })?;
+        ascending(&mut self.clause, self.resolution.literals())?;
+        self.derived.push(&self.clause, chain)?;
         Ok(LineId {
             derived: true,
-            number: self.derived.len() as u64,
+            number: self.derived.len(),
         })
     }
 
@@ -144,7 +146,7 @@ impl Log {
         ensures { result.now ≡ hints_of self.now line }
     {
         if line.derived {
-            self.derived[line.number as usize - 1].hints()
+            self.derived.hints(line.number)
         } else {
             &[]
         }
@@ -162,7 +164,7 @@ impl Log {
     pub fn derived(&self) -> u64
         ensures { result ≡ length self.now.derived }
     {
-        self.derived.len() as u64
+        self.derived.len()
     }
 
     /// A printer of the certificate with that head: its lines are the first so many derived ones, numbered on

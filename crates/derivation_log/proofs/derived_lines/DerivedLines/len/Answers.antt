@@ -1,0 +1,10 @@
+use Rattle.std.proofs.Common.{◌≡◌, length, sym, ◌∙◌}
+use Rattle.sat_base.specs.Pieces.{pieces}
+use Rattle.sat_base.proofs.Parts.{length-pieces}
+use Rattle.derivation_log.proofs.DerivedLines.{length-lines_of}
+use Rattle.derivation_log.proofs.derived_lines.DerivedLines.len.Goals as goal
+
+pub returns : goal.returns
+returns c =
+    let same = c.self.invariant.1 ∙ sym (length-pieces 0 c.self.inside.ends.items c.self.inside.hints.items) in
+    rw (← c.self.view_is, length-lines_of c.self.inside.clauses (pieces 0 c.self.inside.ends.items c.self.inside.hints.items) same) c.len.ensures
