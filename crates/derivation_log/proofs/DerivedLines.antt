@@ -1,5 +1,5 @@
 -- Derived lines whose clauses and hints are kept in two lists.
-use Rattle.std.proofs.Common.{◌≡◌, ℕ, suc, ◌+◌, List, [], ◌∷◌, ◌++◌, length, map, refl, ap, arith}
+use Rattle.std.proofs.Common.{◌≡◌, ℕ, suc, ◌+◌, List, [], ◌∷◌, ◌++◌, length, refl, ap, ◌∙◌, sym, arith, length-append}
 use Rattle.sat_base.specs.Literal.{Literal}
 use Rattle.derivation_log.specs.declared.line_id.LineId.{LineId}
 use Rattle.derivation_log.specs.Log.{Derived, clauses_of, hints_in}
@@ -29,3 +29,7 @@ lines_of-push [] (first ∷ chains) clause hints same = absurd (omega arith)
 lines_of-push (first ∷ clauses) [] clause hints same = absurd (omega arith)
 lines_of-push (first ∷ clauses) (chain ∷ chains) clause hints same =
     ap (λ (lines : List Derived). record { clause = first; hints = chain } ∷ lines) (lines_of-push clauses chains clause hints (omega arith))
+
+-- two lists as long as each other still are with one more in each
+pub same_length-push : {X Y : Type 0} (xs : List X) (x : X) (ys : List Y) (y : Y) → length xs ≡ length ys → length (xs ++ x ∷ []) ≡ length (ys ++ y ∷ [])
+same_length-push xs x ys y same = length-append xs (x ∷ []) ∙ ap (λ (n : ℕ). n + 1) same ∙ sym (length-append ys (y ∷ []))

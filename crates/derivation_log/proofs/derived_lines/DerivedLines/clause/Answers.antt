@@ -1,9 +1,6 @@
-use Rattle.std.proofs.Common.{◌≡◌, ◌≤◌, List, length, sym, ◌∙◌, subst, ap}
-use Rattle.sat_base.specs.Literal.{Literal}
-use Rattle.sat_base.specs.Clauses.{clause_at}
+use Rattle.std.proofs.Common.{sym, ◌∙◌}
 use Rattle.sat_base.specs.Pieces.{pieces}
 use Rattle.sat_base.proofs.Parts.{length-pieces}
-use Rattle.derivation_log.specs.Log.{Derived, clauses_of}
 use Rattle.derivation_log.proofs.DerivedLines.{length-lines_of, clauses_of-lines_of}
 use Rattle.derivation_log.proofs.derived_lines.DerivedLines.clause.Goals as goal
 

@@ -1,4 +1,4 @@
-use Rattle.std.proofs.Common.{◌≡◌, length, sym, ◌∙◌}
+use Rattle.std.proofs.Common.{sym, ◌∙◌}
 use Rattle.sat_base.specs.Pieces.{pieces}
 use Rattle.sat_base.proofs.Parts.{length-pieces}
 use Rattle.derivation_log.proofs.DerivedLines.{length-lines_of}
