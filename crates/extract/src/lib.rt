@@ -1,0 +1,12 @@
+//! Reads the schedule out of a model of the encoding.
+#![tactic(auto)]
+
+mod activities;
+mod activity;
+mod chains;
+mod reader;
+mod schedule;
+#[cfg(test)]
+mod tests;
+
+pub use schedule::schedule_of;
