@@ -8,7 +8,8 @@ use Rattle.step_rules.specs.declared.action.Action.{Action}
 use Rattle.step_rules.specs.Setting.{SettingValue}
 use Rattle.step_rules.specs.Guards.{is_able_for}
 use Rattle.step_vars.specs.declared.cells.Cell.{Cell}
-use Rattle.step_vars.specs.Lists.{NumberedChannel, numbered_from}
+use Rattle.step_vars.specs.declared.channel_test.NumberedChannel.{NumberedChannel}
+use Rattle.step_vars.specs.Lists.{numbered_from}
 use Rattle.step_vars.specs.Numbering.{before}
 use Rattle.step_facts.specs.Facts.{Facts}
 use Rattle.step_facts.specs.Activities.{Activity, passage, exchange, operation}
