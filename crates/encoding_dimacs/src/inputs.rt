@@ -33,8 +33,8 @@ fn trap_of(alloc: Global, bytes: &[u8]) -> Option<Trap> {
     }
 }
 
-// A trap and a circuit with the declared placement; none where there is no placement, and where they are above the
-// limits of exact mode.
+// A trap and a circuit with the declared placement; none where there is no placement, and where they are
+// above the limits of exact mode.
 fn placed(alloc: Global, trap: Trap, circuit: Circuit) -> Option<Inputs>
     ensures { IfSome result AreReady }
 {
@@ -52,8 +52,8 @@ fn placed(alloc: Global, trap: Trap, circuit: Circuit) -> Option<Inputs>
 }
 
 impl Inputs {
-    /// The circuit and the trap of two texts with the declared placement; none where one of them is refused, where
-    /// there is no placement, and where they are above the limits of exact mode.
+    /// The circuit and the trap of two texts with the declared placement; none where one of them is refused,
+    /// where there is no placement, and where they are above the limits of exact mode.
     pub fn of(alloc: Global, circuit: &[u8], trap: &[u8]) -> Option<Inputs>
         ensures { IfSome result AreReady }
     {
