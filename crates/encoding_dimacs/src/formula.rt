@@ -1,12 +1,12 @@
 //! The clauses of the parts and the last goal.
 
 ghost use Rattle.std.specs.Prelude.{◌≡◌, ◌≤◌, ◌++◌, IfOk, OnOk};
-ghost use Rattle.step_vars.specs.Encoding.{part_of, encoding_of};
+ghost use Rattle.step_vars.specs.Encoding.{part_of, encoding_of, goal_literal};
 ghost use Rattle.encoding_dimacs.specs.Dimacs.{setting_in, question_of, AreVarsOf};
 
 use crate::inputs::Inputs;
 use qc_base::NoMemory;
-use sat_base::Formula;
+use sat_base::{Formula, Lit};
 use std::alloc::Global;
 use step_clauses::{goal, layer};
 use step_vars::{Claim, Item, Vars};
@@ -42,6 +42,16 @@ fn parts(alloc: Global, inputs: &Inputs, vars: &Vars, steps: u32) -> Result<Form
     Ok(formula)
 }
 
+// The literal of the last goal.
+#[tactic(auto, using(crate::proofs::Vars::goal_there, crate::proofs::Vars::goal_is))]
+fn last_goal(inputs: &Inputs, vars: &Vars, steps: u32) -> Lit
+    requires vars { AreVarsOf inputs.now vars.now }
+    requires steps { steps ≡ vars.now.steps }
+    ensures { result ≡ goal_literal (setting_in inputs.now) vars.now.encoding steps }
+{
+    vars.lit(&Claim::so(Item::Goal { time: steps }))
+}
+
 /// The clauses of the parts 0 to that number of steps, and the unit clause of the last goal.
 pub fn question(
     alloc: Global,
@@ -54,7 +64,6 @@ pub fn question(
     ensures { IfOk result (λ formula. formula ≡ question_of (setting_in inputs.now) vars.now.encoding steps) }
 {
     let mut formula = parts(alloc, inputs, vars, steps)?;
-    let last = vars.lit(&Claim::so(Item::Goal { time: steps }));
-    formula.push(&[last])?;
+    formula.push(&[last_goal(inputs, vars, steps)])?;
     Ok(formula)
 }

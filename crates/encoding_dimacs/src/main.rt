@@ -11,9 +11,10 @@ ghost use Rattle.std.specs.Prelude.{◌≤◌};
 use inputs::Inputs;
 use request::Request;
 use std::alloc::Global;
+use std::io::{self, Write};
 use std::process::ExitCode;
 use std::rt::Files;
-use std::{env, fs, io};
+use std::{env, fs};
 use text::encoded;
 
 // What a run on words of another form ends with, and one on files that are refused.
@@ -27,7 +28,7 @@ fn write<R: Files + Print + AllocGlobal>(
     alloc: Global,
     request: &Request,
 ) -> io::Result<ExitCode>
-    requires { request.steps ≤ 48 }
+    requires { request.now.steps ≤ 48 }
 {
     let circuit = fs::read(rt, request.circuit)?;
     let trap = fs::read(rt, request.trap)?;
