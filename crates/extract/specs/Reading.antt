@@ -1,5 +1,5 @@
 -- Working notions of private functions: reading the values of a step.
-use Rattle.std.specs.Prelude.{◌≡◌, ℕ, ◌+◌, ◌<◌, ◌≤◌, ◌^◌, List, length, map, filter}
+use Rattle.std.specs.Prelude.{ℕ, ◌+◌, ◌<◌, ◌≤◌, ◌^◌, List, length, map, filter}
 use Rattle.qc_base.specs.declared.ids.Ion.{Ion}
 use Rattle.sat_base.specs.Valuation.{valuation_of}
 use Rattle.trap_model.specs.declared.channel.Channel.{Channel}

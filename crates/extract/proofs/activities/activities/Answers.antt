@@ -1,4 +1,4 @@
-use Rattle.std.proofs.Common.{◌≡◌, ◌++◌, map, length, sym, ap, subst, ◌∙◌, arith}
+use Rattle.std.proofs.Common.{◌≡◌, ◌++◌, map, length, ap, subst, ◌∙◌, arith}
 use Rattle.trap_model.specs.Build.{IsTrap}
 use Rattle.trap_model.specs.Trap.{TrapValue}
 use Rattle.trap_model.specs.Channels.{channels_of}
