@@ -5,7 +5,7 @@ use Rattle.std.proofs.lemmas.Option.{slice_get_within}
 use Rattle.std.proofs.lemmas.Bool.{cases_eq, cases_lt, ne_eqb}
 use Rattle.sat_base.specs.Literal.{Literal}
 use Rattle.sat_base.proofs.Sets.{cases_literal}
-use Rattle.watch_lists.specs.Watched.{Watched, Stands, IsAdded, EachLinkOnce, list_of}
+use Rattle.watch_lists.specs.Watched.{Watched, OccursBetween, IsAdded, EachLinkOnce, list_of}
 use Rattle.watch_lists.specs.Chains.{IsIn, Follows}
 use Rattle.cdcl.specs.Linked.{IsTied, other_link}
 
@@ -117,22 +117,22 @@ begins (x ∷ xs) link e = (xs, ap (λ (o : Option ℕ). (elim o as (λ _. List 
 -- ---- a link is in the list of its literal alone
 
 -- two decompositions of a list around a link that is in it once
-pub once_in : (watched : Watched) (literal : Literal) (link : ℕ) (front back : List ℕ) → EachLinkOnce watched → Stands watched link literal front back → (IsIn link front → ⊥) × (IsIn link back → ⊥)
-once_in watched literal link front back once stands = (before, after)
+pub once_in : (watched : Watched) (literal : Literal) (link : ℕ) (front back : List ℕ) → EachLinkOnce watched → OccursBetween watched link literal front back → (IsIn link front → ⊥) × (IsIn link back → ⊥)
+once_in watched literal link front back once occurs = (before, after)
   where
     before : IsIn link front → ⊥
     before is =
         let h = around front link is in
-        let again : list_of watched literal ≡ h.0 ++ link ∷ (h.1.0 ++ link ∷ back) = stands.1 ∙ ap (λ (xs : List ℕ). xs ++ link ∷ back) h.1.1 ∙ append_assoc h.0 (link ∷ h.1.0) (link ∷ back) in
-        let same = ap length (once.once link literal literal front back h.0 (h.1.0 ++ link ∷ back) stands (stands.0, again)).1 in
+        let again : list_of watched literal ≡ h.0 ++ link ∷ (h.1.0 ++ link ∷ back) = occurs.1 ∙ ap (λ (xs : List ℕ). xs ++ link ∷ back) h.1.1 ∙ append_assoc h.0 (link ∷ h.1.0) (link ∷ back) in
+        let same = ap length (once.once link literal literal front back h.0 (h.1.0 ++ link ∷ back) occurs (occurs.0, again)).1 in
         let lengths = ap length h.1.1 in
         omega (arith, length-append h.0 (link ∷ h.1.0), length-append h.1.0 (link ∷ back))
 
     after : IsIn link back → ⊥
     after is =
         let h = around back link is in
-        let again : list_of watched literal ≡ (front ++ link ∷ h.0) ++ link ∷ h.1.0 = stands.1 ∙ ap (λ (xs : List ℕ). front ++ link ∷ xs) h.1.1 ∙ sym (append_assoc front (link ∷ h.0) (link ∷ h.1.0)) in
-        let same = ap length (once.once link literal literal front back (front ++ link ∷ h.0) h.1.0 stands (stands.0, again)).1 in
+        let again : list_of watched literal ≡ (front ++ link ∷ h.0) ++ link ∷ h.1.0 = occurs.1 ∙ ap (λ (xs : List ℕ). front ++ link ∷ xs) h.1.1 ∙ sym (append_assoc front (link ∷ h.0) (link ∷ h.1.0)) in
+        let same = ap length (once.once link literal literal front back (front ++ link ∷ h.0) h.1.0 occurs (occurs.0, again)).1 in
         omega (arith, length-append front (link ∷ h.0))
 
 no_middle : (front back : List ℕ) (link : ℕ) → front ++ link ∷ back ≡ [] → ⊥
@@ -144,11 +144,11 @@ pub tied_vars : (old new : Watched) (literals : List Literal) → IsTied old lit
     → ((literal : Literal) → IsAdded old literal → list_of new literal ≡ list_of old literal) → IsTied new literals
 tied_vars old new literals tied clauses empty others = record {
   count = tied.count ∙ ap (λ (n : ℕ). 2 * n) (sym clauses);
-  own = λ link literal front back stands. elim (cases_lt old.vars literal.var) [
-    | inl beyond ↦ absurd (no_middle front back link (sym stands.1 ∙ empty literal beyond))
+  own = λ link literal front back occurs. elim (cases_lt old.vars literal.var) [
+    | inl beyond ↦ absurd (no_middle front back link (sym occurs.1 ∙ empty literal beyond))
     | inr within ↦
-        let added : IsAdded old literal = (stands.0.0, within) in
-        tied.own link literal front back (added, sym (others literal added) ∙ stands.1)
+        let added : IsAdded old literal = (occurs.0.0, within) in
+        tied.own link literal front back (added, sym (others literal added) ∙ occurs.1)
   ];
 }
 
@@ -162,20 +162,20 @@ pub tied_pair : (old new : Watched) (literals : List Literal) (a b : Literal) �
     → ((other : Literal) → IsAdded old other → other ≢ a → other ≢ b → list_of new other ≡ list_of old other) → IsTied new (literals ++ a ∷ b ∷ [])
 tied_pair old new literals a b tied clauses vars ne first second others = record {
   count = let n = tied.count in omega (arith, length-append literals (a ∷ b ∷ []));
-  own = λ link literal front back stands.
+  own = λ link literal front back occurs.
       let n = tied.count in
-      let added : IsAdded old literal = (stands.0.0, omega (arith, stands.0.1)) in
+      let added : IsAdded old literal = (occurs.0.0, omega (arith, occurs.0.1)) in
       elim (cases_literal literal a) [
-        | inl e ↦ elim (put_first_cases (2 * old.clauses) link (list_of old a) front back (sym first ∙ ap (list_of new) (sym e) ∙ stands.1)) [
+        | inl e ↦ elim (put_first_cases (2 * old.clauses) link (list_of old a) front back (sym first ∙ ap (list_of new) (sym e) ∙ occurs.1)) [
           | inl here ↦ get_past literals (a ∷ b ∷ []) link 0 (omega arith) ∙ ap Some (sym e)
           | inr later ↦ get_left literals (a ∷ b ∷ []) link literal (tied.own link literal later.0 back (added, ap (list_of old) e ∙ later.1))
         ]
         | inr not_a ↦ elim (cases_literal literal b) [
-          | inl e ↦ elim (put_first_cases (2 * old.clauses + 1) link (list_of old b) front back (sym second ∙ ap (list_of new) (sym e) ∙ stands.1)) [
+          | inl e ↦ elim (put_first_cases (2 * old.clauses + 1) link (list_of old b) front back (sym second ∙ ap (list_of new) (sym e) ∙ occurs.1)) [
             | inl here ↦ get_past literals (a ∷ b ∷ []) link 1 (omega arith) ∙ ap Some (sym e)
             | inr later ↦ get_left literals (a ∷ b ∷ []) link literal (tied.own link literal later.0 back (added, ap (list_of old) e ∙ later.1))
           ]
-          | inr not_b ↦ get_left literals (a ∷ b ∷ []) link literal (tied.own link literal front back (added, sym (others literal added not_a not_b) ∙ stands.1))
+          | inr not_b ↦ get_left literals (a ∷ b ∷ []) link literal (tied.own link literal front back (added, sym (others literal added not_a not_b) ∙ occurs.1))
         ]
       ];
 }
@@ -194,33 +194,33 @@ pub tied_moved : (old new : Watched) (literals : List Literal) (literal to : Lit
     → IsAdded old literal → IsAdded old to → list_of old literal ≡ front ++ link ∷ back → list_of new literal ≡ front ++ back → list_of new to ≡ link ∷ list_of old to
     → ((other : Literal) → IsAdded old other → other ≢ literal → other ≢ to → list_of new other ≡ list_of old other) → IsTied new (set literals link to)
 tied_moved old new literals literal to link front back tied once clauses vars ne here there split left right others =
-    let mine : Stands old link literal front back = (here, split) in
+    let mine : OccursBetween old link literal front back = (here, split) in
     let at : slice_get literals link ≡ Some literal = tied.own link literal front back mine in
     let within = slice_get_within literals link literal at in
     let alone = once_in old literal link front back once mine in
     record {
       count = length-set literals link to ∙ tied.count ∙ ap (λ (n : ℕ). 2 * n) (sym clauses);
-      own = λ x q f b stands.
-          let added : IsAdded old q = (stands.0.0, omega (arith, stands.0.1)) in
+      own = λ x q f b occurs.
+          let added : IsAdded old q = (occurs.0.0, omega (arith, occurs.0.1)) in
           elim (cases_literal q literal) [
             | inl e ↦
-                let short : front ++ back ≡ f ++ x ∷ b = sym left ∙ ap (list_of new) (sym e) ∙ stands.1 in
+                let short : front ++ back ≡ f ++ x ∷ b = sym left ∙ ap (list_of new) (sym e) ∙ occurs.1 in
                 let again = parts_again front back f b x short link in
-                let old_stands : Stands old x q again.0 again.1.0 = (added, ap (list_of old) e ∙ split ∙ again.1.1) in
+                let old_occurs : OccursBetween old x q again.0 again.1.0 = (added, ap (list_of old) e ∙ split ∙ again.1.1) in
                 let apart : x ≢ link = λ same. elim (IsIn-append front back link (subst (IsIn link) (sym short) (subst (λ (y : ℕ). IsIn link (f ++ y ∷ b)) (sym same) (IsIn_middle f b link)))) [ inl h ↦ alone.0 h | inr h ↦ alone.1 h ] in
-                get_set_other literals link x to apart ∙ tied.own x q again.0 again.1.0 old_stands
+                get_set_other literals link x to apart ∙ tied.own x q again.0 again.1.0 old_occurs
             | inr not_here ↦ elim (cases_literal q to) [
-              | inl e ↦ elim (put_first_cases link x (list_of old to) f b (sym right ∙ ap (list_of new) (sym e) ∙ stands.1)) [
+              | inl e ↦ elim (put_first_cases link x (list_of old to) f b (sym right ∙ ap (list_of new) (sym e) ∙ occurs.1)) [
                 | inl same ↦ subst (λ (y : ℕ). slice_get (set literals link to) y ≡ Some q) (sym same) (get_set_same literals link to within ∙ ap Some (sym e))
                 | inr later ↦
-                    let old_stands : Stands old x q later.0 b = (added, ap (list_of old) e ∙ later.1) in
-                    let apart : x ≢ link = λ same. not_here (once.once link q literal later.0 b front back (subst (λ (y : ℕ). Stands old y q later.0 b) same old_stands) mine).0 in
-                    get_set_other literals link x to apart ∙ tied.own x q later.0 b old_stands
+                    let old_occurs : OccursBetween old x q later.0 b = (added, ap (list_of old) e ∙ later.1) in
+                    let apart : x ≢ link = λ same. not_here (once.once link q literal later.0 b front back (subst (λ (y : ℕ). OccursBetween old y q later.0 b) same old_occurs) mine).0 in
+                    get_set_other literals link x to apart ∙ tied.own x q later.0 b old_occurs
               ]
               | inr not_there ↦
-                  let old_stands : Stands old x q f b = (added, sym (others q added not_here not_there) ∙ stands.1) in
-                  let apart : x ≢ link = λ same. not_here (once.once link q literal f b front back (subst (λ (y : ℕ). Stands old y q f b) same old_stands) mine).0 in
-                  get_set_other literals link x to apart ∙ tied.own x q f b old_stands
+                  let old_occurs : OccursBetween old x q f b = (added, sym (others q added not_here not_there) ∙ occurs.1) in
+                  let apart : x ≢ link = λ same. not_here (once.once link q literal f b front back (subst (λ (y : ℕ). OccursBetween old y q f b) same old_occurs) mine).0 in
+                  get_set_other literals link x to apart ∙ tied.own x q f b old_occurs
             ]
           ];
     }

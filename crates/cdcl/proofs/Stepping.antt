@@ -40,7 +40,7 @@ pub in_own_list : (watched : Watched) (literals : List Literal) (link : ℕ) (li
 in_own_list watched literals link literal tied once own =
     let within = slice_get_within literals link literal own in
     let count = tied.count in
-    let h = once.stands link (omega arith) in
+    let h = once.listed link (omega arith) in
     let same : h.0 ≡ literal = same_some h.0 literal (sym (tied.own link h.0 h.1.0 h.1.1.0 h.1.1.1) ∙ own) in
     subst (IsIn link) (sym (ap (list_of watched) (sym same) ∙ h.1.1.1.1)) (IsIn_middle h.1.0 h.1.1.0 link)
 

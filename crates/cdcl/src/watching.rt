@@ -13,7 +13,7 @@ pub(crate) struct Pair {
     pub(crate) second: Lit,
 }
 
-/// The lines of at most one literal, and for each clause of two links its line. None stands where a line did not
+/// The lines of at most one literal, and for each clause of two links its line. It is None where a line did not
 /// come about, since memory ran out.
 #[derive(Drop)]
 pub(crate) struct Watching {

@@ -13,7 +13,7 @@ use Rattle.step_rules.specs.Placement.{start_of}
 use Rattle.step_rules.specs.Setting.{SettingValue}
 use Rattle.step_rules.specs.Play.{AreLegal, PerformsIn, Plays, performs, actions_of, one_at_a_time}
 use Rattle.step_rules.specs.Tight.{AreOrdered}
-use Rattle.compact.specs.Tightened.{with_time, AreSpread, IsRearranged, IsSerial, StandInOrder}
+use Rattle.compact.specs.Tightened.{with_time, AreSpread, IsRearranged, IsSerial, AreInOrder}
 use Rattle.compact.specs.Latest.{IsAt}
 use Rattle.compact.proofs.Places.{contains_at, at_contains, some_at}
 use Rattle.compact.proofs.Spreading.{in_its_step, from_its_step}
@@ -147,7 +147,7 @@ alone_at actions number place action there is = record {
   is = is;
 }
 
-plays_in_order : (setting : SettingValue) (actions : List Action) (steps : List (List Action)) → StandInOrder setting.circuit (one_at_a_time actions) → IsRearranged setting actions steps → StandInOrder setting.circuit steps
+plays_in_order : (setting : SettingValue) (actions : List Action) (steps : List (List Action)) → AreInOrder setting.circuit (one_at_a_time actions) → IsRearranged setting actions steps → AreInOrder setting.circuit steps
 plays_in_order setting actions steps in_order is i j forced s t of_i of_j =
     let first : PerformsIn steps i s = of_i in
     let second : PerformsIn steps j t = of_j in

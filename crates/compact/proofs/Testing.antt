@@ -15,7 +15,7 @@ use Rattle.step_rules.specs.Setting.{SettingValue}
 use Rattle.step_rules.specs.Guards.{Passes}
 use Rattle.step_rules.specs.Steps.{after, after_step}
 use Rattle.step_rules.specs.Play.{AreLegal, PerformsIn, after_steps, one_at_a_time, performs}
-use Rattle.compact.specs.Tightened.{StandInOrder}
+use Rattle.compact.specs.Tightened.{AreInOrder}
 use Rattle.compact.specs.Orders.{Precedes, IsPerformedAt}
 use Rattle.compact.proofs.Places.{after_front, contains_at}
 use Rattle.compact.proofs.Carrying.{legal_alone}
@@ -77,7 +77,7 @@ performed_of actions number place it =
     which_op actions number place it.action (alone.1 ∙ ap Some same) it.is
 
 pub in_order_of : (circuit : CircuitValue) (actions : List Action) (count : ℕ) → length actions ≤ count
-    → ((i j p q : ℕ) → Forced circuit i j → IsPerformedAt actions i p → IsPerformedAt actions j q → q < count → p < q) → StandInOrder circuit (one_at_a_time actions)
+    → ((i j p q : ℕ) → Forced circuit i j → IsPerformedAt actions i p → IsPerformedAt actions j q → q < count → p < q) → AreInOrder circuit (one_at_a_time actions)
 in_order_of circuit actions count most each i j forced s t of_i of_j =
     let later : IsPerformedAt actions j t = performed_of actions j t of_j in
     let within : t < length actions = slice_get_within actions t (kinds.Op later.zone (record { 0 = j })) later.there in

@@ -14,7 +14,9 @@ pub record ClockValue : Type 0 where
 
 -- the level of each spot is when all actions that work on it are done
 abbrev pub AreSpots : TrapValue → (Action → ℕ → Type 0) → SpotsValue → Type 0
-AreSpots trap noted levels = (spot : Spot) → IsLast noted (λ (action : Action). Contains (footprint trap action) spot) (spot_level levels spot)
+AreSpots trap noted levels =
+    (spot : Spot)
+    → IsLast noted (λ (action : Action). Contains (footprint trap action) spot) (spot_level levels spot)
 
 -- what is kept after the first actions of the list, which have these times
 pub record IsClock (setting : SettingValue) (actions : List Action) (times : List ℕ) (clock : ClockValue) : Type 0 where

@@ -30,7 +30,9 @@ greatest_of level (first ∷ rest) = max (level first) (greatest_of level rest)
 
 -- these have at least that level now, and all others stay
 abbrev pub AreRaised : {W : Type 0} → (W → Type 0) → (W → ℕ) → (W → ℕ) → ℕ → Type 0
-AreRaised {W} on old new level = (which : W) → (on which × (new which ≡ max (old which) level)) ⊎ ((on which → ⊥) × (new which ≡ old which))
+AreRaised {W} on old new level =
+    (which : W)
+    → (on which × (new which ≡ max (old which) level)) ⊎ ((on which → ⊥) × (new which ≡ old which))
 
 -- the levels of places and junctions
 pub record SpotsValue : Type 0 where

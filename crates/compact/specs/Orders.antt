@@ -46,11 +46,13 @@ pub record IsBeforeBarrier (circuit : CircuitValue) (barriers : ℕ → Type 0) 
 
 -- one of these operations acts on the wire, or has to come before one of these barriers on it
 abbrev pub Reaches : CircuitValue → (ℕ → Type 0) → (ℕ → Type 0) → Wire → ℕ → Type 0
-Reaches circuit direct barriers wire number = (direct number × IsOnWire circuit wire number) ⊎ IsBeforeBarrier circuit barriers wire number
+Reaches circuit direct barriers wire number =
+    (direct number × IsOnWire circuit wire number) ⊎ IsBeforeBarrier circuit barriers wire number
 
 -- the level of each wire is when all that reaches it is done
 abbrev pub AreWires : CircuitValue → (ℕ → Type 0) → (ℕ → Type 0) → (Action → ℕ → Type 0) → WiresValue → Type 0
-AreWires circuit direct barriers noted levels = (wire : Wire) → IsLast noted (Performs (Reaches circuit direct barriers wire)) (wire_level levels wire)
+AreWires circuit direct barriers noted levels =
+    (wire : Wire) → IsLast noted (Performs (Reaches circuit direct barriers wire)) (wire_level levels wire)
 
 -- all operations are counted
 abbrev pub Any : ℕ → Type 0
@@ -74,18 +76,22 @@ pub record IsSettledBy (circuit : CircuitValue) (actions : List Action) (op barr
 
 -- the barriers below that number that the operation settles, in order
 pub record IsWaitingRow (circuit : CircuitValue) (actions : List Action) (count op : ℕ) (row : List OpId) : Type 0 where
-  pub sound : (barrier : ℕ) → Contains row (record { 0 = barrier }) → (barrier < count) × IsSettledBy circuit actions op barrier
-  pub all : (barrier : ℕ) → barrier < count → IsSettledBy circuit actions op barrier → Contains row (record { 0 = barrier })
+  pub sound : (barrier : ℕ) → Contains row (record { 0 = barrier })
+      → (barrier < count) × IsSettledBy circuit actions op barrier
+  pub all : (barrier : ℕ) → barrier < count → IsSettledBy circuit actions op barrier
+      → Contains row (record { 0 = barrier })
   pub ascending : AllPairs (λ (first second : OpId). first.0 < second.0) row
 
 -- such a row for each operation
-pub record AreWaiting (circuit : CircuitValue) (actions : List Action) (count : ℕ) (rows : List (List OpId)) : Type 0 where
+pub record AreWaiting (circuit : CircuitValue) (actions : List Action) (count : ℕ)
+    (rows : List (List OpId)) : Type 0 where
   pub len : length rows ≡ length circuit.ops
   pub each : (op : ℕ) (row : List OpId) → slice_get rows op ≡ Some row → IsWaitingRow circuit actions count op row
 
 -- for each operation the last action that performs it, counted from 1, and 0 for none
 abbrev pub AreLastPlaces : List Action → List ℕ → Type 0
-AreLastPlaces actions last = (op : ℕ) → IsLast (IsPlaced actions) (Performs (λ (number : ℕ). number ≡ op)) (slice_index last op)
+AreLastPlaces actions last =
+    (op : ℕ) → IsLast (IsPlaced actions) (Performs (λ (number : ℕ). number ≡ op)) (slice_index last op)
 
 -- the action is the last of so many
 abbrev pub IsPlaceNoted : Action → ℕ → List ℕ → List ℕ → Type 0
@@ -101,14 +107,18 @@ abbrev pub Below : ℕ → ℕ → Type 0
 Below count number = number < count
 
 -- what reaches each wire among so many first operations, and the rows of the barriers among them
-pub record ArePassed (circuit : CircuitValue) (actions : List Action) (count : ℕ) (levels : WiresValue) (rows : List (List OpId)) : Type 0 where
+pub record ArePassed (circuit : CircuitValue) (actions : List Action) (count : ℕ) (levels : WiresValue)
+    (rows : List (List OpId)) : Type 0 where
   pub wires : AreWires circuit (Below count) (Below count) (IsPlaced actions) levels
   pub waiting : AreWaiting circuit actions count rows
 
 -- the barrier waits for that operation now where the action of that number, counted from 1, performs it
-pub data Waits (actions : List Action) (place : ℕ) (barrier : OpId) (old : List (List OpId)) (op : ℕ) (row : List OpId) : Type 0 where
-  row_grew : (before : List OpId) (p : ℕ) → slice_get old op ≡ Some before → place ≡ p + 1 → IsPerformedAt actions op p → before ++ barrier ∷ [] ≡ row → Waits actions place barrier old op row
-  row_stayed : slice_get old op ≡ Some row → ((p : ℕ) → place ≡ p + 1 → IsPerformedAt actions op p → ⊥) → Waits actions place barrier old op row
+pub data Waits (actions : List Action) (place : ℕ) (barrier : OpId) (old : List (List OpId)) (op : ℕ)
+    (row : List OpId) : Type 0 where
+  row_grew : (before : List OpId) (p : ℕ) → slice_get old op ≡ Some before → place ≡ p + 1
+      → IsPerformedAt actions op p → before ++ barrier ∷ [] ≡ row → Waits actions place barrier old op row
+  row_stayed : slice_get old op ≡ Some row → ((p : ℕ) → place ≡ p + 1 → IsPerformedAt actions op p → ⊥)
+      → Waits actions place barrier old op row
 
 -- so for each operation
 pub record IsWaited (actions : List Action) (place : ℕ) (barrier : OpId) (old new : List (List OpId)) : Type 0 where
@@ -116,7 +126,8 @@ pub record IsWaited (actions : List Action) (place : ℕ) (barrier : OpId) (old 
   pub each : (op : ℕ) (row : List OpId) → slice_get new op ≡ Some row → Waits actions place barrier old op row
 
 -- an action before that place performs the operation, and what has to come before it is done after so many steps
-pub record IsReadyAfter (circuit : CircuitValue) (actions : List Action) (times : List ℕ) (count op level : ℕ) : Type 0 where
+pub record IsReadyAfter (circuit : CircuitValue) (actions : List Action) (times : List ℕ)
+    (count op level : ℕ) : Type 0 where
   pub place : ℕ
   pub performed : IsPerformedAt actions op place
   pub before : place < count
@@ -128,7 +139,8 @@ pub record IsAsked (ready : List (Option ℕ)) (op : ℕ) : Type 0 where
   pub there : slice_get ready op ≡ Some (Some level)
 
 -- when an action performs an operation, and the last that does, with the barriers that wait for it
-pub record IsSettling (circuit : CircuitValue) (actions : List Action) (times : List ℕ) (place op : ℕ) (row : List OpId) : Type 0 where
+pub record IsSettling (circuit : CircuitValue) (actions : List Action) (times : List ℕ) (place op : ℕ)
+    (row : List OpId) : Type 0 where
   pub ordered : AreOrdered circuit actions
   pub len : length times ≡ place + 1
   pub performed : IsPerformedAt actions op place
@@ -137,17 +149,20 @@ pub record IsSettling (circuit : CircuitValue) (actions : List Action) (times : 
 
 -- the barriers that were settled before, and so many first ones of the row
 abbrev pub Counted : CircuitValue → List Action → ℕ → List OpId → ℕ → ℕ → Type 0
-Counted circuit actions place row count barrier = IsSettled circuit actions place barrier ⊎ Contains (take count row) (record { 0 = barrier })
+Counted circuit actions place row count barrier =
+    IsSettled circuit actions place barrier ⊎ Contains (take count row) (record { 0 = barrier })
 
 -- the levels of the wires while these barriers are counted
 abbrev pub AreCounted : CircuitValue → List OpId → ℕ → WiresValue → WiresValue → Type 0
-AreCounted circuit row count old new = (actions : List Action) (times : List ℕ) (place op : ℕ) → IsSettling circuit actions times place op row
+AreCounted circuit row count old new =
+    (actions : List Action) (times : List ℕ) (place op : ℕ) → IsSettling circuit actions times place op row
     → AreWires circuit Any (IsSettled circuit actions place) (IsAt (take (place + 1) actions) times) old
     → AreWires circuit Any (Counted circuit actions place row count) (IsAt (take (place + 1) actions) times) new
 
 -- and when all are
 abbrev pub AreSettled : CircuitValue → List OpId → WiresValue → WiresValue → Type 0
-AreSettled circuit row old new = (actions : List Action) (times : List ℕ) (place op : ℕ) → IsSettling circuit actions times place op row
+AreSettled circuit row old new =
+    (actions : List Action) (times : List ℕ) (place op : ℕ) → IsSettling circuit actions times place op row
     → AreWires circuit Any (IsSettled circuit actions place) (IsAt (take (place + 1) actions) times) old
     → AreWires circuit Any (IsSettled circuit actions (place + 1)) (IsAt (take (place + 1) actions) times) new
 
@@ -158,10 +173,13 @@ pub record OrdersValue : Type 0 where
   pub waiting : List (List OpId)
 
 -- what is kept after so many first actions of the list, of which so many operations were asked for
-pub record AreOrders (circuit : CircuitValue) (actions : List Action) (times : List ℕ) (count : ℕ) (orders : OrdersValue) : Type 0 where
-  pub wires : AreWires circuit Any (IsSettled circuit actions (length times)) (IsAt (take (length times) actions) times) orders.wires
+pub record AreOrders (circuit : CircuitValue) (actions : List Action) (times : List ℕ) (count : ℕ)
+    (orders : OrdersValue) : Type 0 where
+  pub wires : AreWires circuit Any (IsSettled circuit actions (length times))
+      (IsAt (take (length times) actions) times) orders.wires
   pub len : length orders.ready ≡ length circuit.ops
-  pub ready : (op level : ℕ) → slice_get orders.ready op ≡ Some (Some level) → IsReadyAfter circuit actions times count op level
+  pub ready : (op level : ℕ) → slice_get orders.ready op ≡ Some (Some level)
+      → IsReadyAfter circuit actions times count op level
   pub asked : (op place : ℕ) → IsPerformedAt actions op place → place < count → IsAsked orders.ready op
   pub last : (op : ℕ) → IsLast (IsPlaced actions) (Performs (λ (number : ℕ). number ≡ op)) (slice_index orders.last op)
   pub waiting : AreWaiting circuit actions (length circuit.ops) orders.waiting

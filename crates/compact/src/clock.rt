@@ -47,14 +47,17 @@ impl Clock {
 
     // The places and junctions of a footprint are free only after so many steps.
     fn hold(&mut self, works: &Footprint, level: usize) -> Result<(), NoMemory>
-        ensures spots { OnOk result (AreRaised (Contains (spots_of works.now)) (spot_level self.old.spots) (spot_level self.new.spots) level) }
+        ensures spots { OnOk result
+            (AreRaised (Contains (spots_of works.now)) (spot_level self.old.spots)
+            (spot_level self.new.spots) level) }
         ensures orders { OnOk result (self.new.orders ≡ self.old.orders) }
     {
         self.spots.raise(works, level)?;
         Ok(())
     }
 
-    // The step of the next action after those with these times, counted from 0: the first after all that conflict with it.
+    // The step of the next action after those with these times, counted from 0: the first after all that conflict
+    // with it.
     fn take(
         &mut self,
         setting: &Setting,

@@ -10,7 +10,8 @@ ghost use Rattle.compact.specs.Tightened.{IsSerial, IsRearranged};
 
 /// A rearrangement has as many actions of each kind as the list.
 pub fn rearranged_steps_have_the_same_actions()
-    ensures counts { (setting : SettingValue) (actions : List Action) (steps : List (List Action)) (test : Action → Bool)
+    ensures counts { (setting : SettingValue) (actions : List Action) (steps : List (List Action))
+        (test : Action → Bool)
         → IsRearranged setting actions steps → how_many test (actions_of steps) ≡ how_many test actions }
     ensures members { (setting : SettingValue) (actions : List Action) (steps : List (List Action)) (action : Action)
         → IsRearranged setting actions steps → Contains (actions_of steps) action ↔ Contains actions action }

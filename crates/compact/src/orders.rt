@@ -102,7 +102,8 @@ impl Orders {
     ) -> Result<(), NoMemory>
         ensures { OnOk result ((actions : List AnAction) (times : List ℕ) (time : ℕ) → AreOrdered circuit.now actions
             → count ≡ length times + 1 → level ≡ time + 1 → AreOrders circuit.now actions times count self.old
-            → IsPerformedAt actions op.0 (length times) → AreOrders circuit.now actions (times ++ time ∷ []) count self.new) }
+            → IsPerformedAt actions op.0 (length times)
+            → AreOrders circuit.now actions (times ++ time ∷ []) count self.new) }
     {
         let number = op.0 as usize;
         let Some(operation) = circuit.op(op) else {

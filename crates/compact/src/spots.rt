@@ -68,7 +68,8 @@ impl Spots {
 
     // Raises the level of a place, where there is one.
     fn raise_place(&mut self, place: Option<PlaceId>, level: usize) -> Result<(), NoMemory>
-        ensures { OnOk result (AreRaised (Contains (place_spots place)) (spot_level self.old) (spot_level self.new) level) }
+        ensures { OnOk result
+            (AreRaised (Contains (place_spots place)) (spot_level self.old) (spot_level self.new) level) }
     {
         let Some(place) = place else {
             return Ok(());
@@ -79,7 +80,9 @@ impl Spots {
 
     // Raises the level of a junction, where there is one.
     fn raise_junction(&mut self, junction: Option<JunctionId>, level: usize) -> Result<(), NoMemory>
-        ensures { OnOk result (AreRaised (Contains (junction_spots junction)) (spot_level self.old) (spot_level self.new) level) }
+        ensures { OnOk result
+            (AreRaised (Contains (junction_spots junction)) (spot_level self.old)
+            (spot_level self.new) level) }
     {
         let Some(junction) = junction else {
             return Ok(());
@@ -90,7 +93,8 @@ impl Spots {
 
     /// Raises the levels of the places and the junction of a footprint to at least that.
     pub fn raise(&mut self, works: &Footprint, level: usize) -> Result<(), NoMemory>
-        ensures { OnOk result (AreRaised (Contains (spots_of works.now)) (spot_level self.old) (spot_level self.new) level) }
+        ensures { OnOk result
+            (AreRaised (Contains (spots_of works.now)) (spot_level self.old) (spot_level self.new) level) }
     {
         self.raise_place(Some(works.first), level)?;
         self.raise_place(works.second, level)?;

@@ -7,7 +7,7 @@ ghost use Rattle.trap_model.specs.Names.{is_name};
 ghost use Rattle.trap_model.specs.Build.{AreNames};
 ghost use Rattle.step_rules.specs.Placement.{IsPlacement, start_of};
 ghost use Rattle.step_rules.specs.Play.{AreLegal, one_at_a_time};
-ghost use Rattle.compact.specs.Tightened.{StandInOrder};
+ghost use Rattle.compact.specs.Tightened.{AreInOrder};
 ghost use Rattle.compact.specs.Orders.{IsPerformedAt, Precedes};
 ghost use Rattle.circuit_core.specs.Order.{Forced};
 
@@ -315,7 +315,7 @@ fn stands_well(circuit: &Circuit, actions: &[Action], place: usize) -> bool
 
 // Whether forced operations are in order.
 fn in_order(circuit: &Circuit, actions: &[Action]) -> bool
-    ensures { IsTrue result → StandInOrder circuit.now (one_at_a_time actions.now) }
+    ensures { IsTrue result → AreInOrder circuit.now (one_at_a_time actions.now) }
 {
     for place in 0..actions.len() {
         if !stands_well(circuit, actions, place) {

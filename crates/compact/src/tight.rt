@@ -83,11 +83,13 @@ fn schedule_of(alloc: Global, rows: &[Row]) -> Result<Schedule, NoMemory>
 pub fn tighten(alloc: Global, setting: &Setting, actions: &[Action]) -> Result<Schedule, NoMemory>
     requires { IsSerial setting.now actions.now }
     ensures tight { IfOk result (λ schedule. IsTight setting.now schedule) }
-    ensures legal { IfOk result (λ schedule. AreLegal setting.now (start_of setting.now.trap setting.now.placement) schedule) }
+    ensures legal { IfOk result
+        (λ schedule. AreLegal setting.now (start_of setting.now.trap setting.now.placement) schedule) }
     ensures same { IfOk result (λ schedule. IsRearranged setting.now actions.now schedule) }
     ensures last { let start = start_of setting.now.trap setting.now.placement in IfOk result (λ schedule.
         after_steps setting.now.trap start schedule ≡ after_steps setting.now.trap start (one_at_a_time actions.now)) }
-    ensures plays { Plays setting.now (one_at_a_time actions.now) → IfOk result (λ schedule. Plays setting.now schedule) }
+    ensures plays { Plays setting.now (one_at_a_time actions.now)
+        → IfOk result (λ schedule. Plays setting.now schedule) }
 {
     let times = times_of(alloc, setting, actions)?;
     let known = times.as_slice();

@@ -146,7 +146,8 @@ fn pass(
     Ok(())
 }
 
-/// For each operation the barriers that it settles: with its last action, all that has to come before them is performed.
+/// For each operation the barriers that it settles: with its last action, all that has to come before them is
+/// performed.
 pub(crate) fn waiting_rows(
     alloc: Global,
     circuit: &Circuit,

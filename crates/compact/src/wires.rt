@@ -94,7 +94,8 @@ impl Wires {
 
     /// Raises the levels of what an operation acts on to at least that.
     pub fn raise(&mut self, circuit: &Circuit, op: &Op, level: usize) -> Result<(), NoMemory>
-        ensures { OnOk result (AreRaised (IsWire circuit.now op.now) (wire_level self.old) (wire_level self.new) level) }
+        ensures { OnOk result
+            (AreRaised (IsWire circuit.now op.now) (wire_level self.old) (wire_level self.new) level) }
     {
         raise_qubits(&mut self.qubits, op, level)?;
         raise_bits(&mut self.bits, written(op), level)?;

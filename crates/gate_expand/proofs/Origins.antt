@@ -212,7 +212,7 @@ record IsPieceFrom (first : ℕ) (begin : Expansion) (program : List Placed) (pi
   pub k : ℕ
   pub number : piece.statement ≡ first + k
   pub said : Placed
-  pub stands : slice_get program k ≡ Some said
+  pub found : slice_get program k ≡ Some said
   pub now : Expansion
   pub before : statements_done (take k program) begin ≡ Ok now
   pub it : Written
@@ -229,7 +229,7 @@ module _ (first : ℕ) (begin mid : Expansion) (p : Placed) (program : List Plac
     k = 0;
     number = omega (arith, is.number);
     said = p;
-    stands = refl;
+    found = refl;
     now = begin;
     before = refl;
     it = said.it;
@@ -245,7 +245,7 @@ module _ (first : ℕ) (begin mid : Expansion) (p : Placed) (program : List Plac
     k = suc is.k;
     number = omega (arith, is.number);
     said = is.said;
-    stands = is.stands;
+    found = is.found;
     now = is.now;
     before = ap (λ (r : Result Expansion ExpandFault). r >>= statements_done (take is.k program)) step ∙ is.before;
     it = is.it;
@@ -259,7 +259,7 @@ module _ (first : ℕ) (begin mid : Expansion) (p : Placed) (program : List Plac
   here_or_later : (piece : Piece) (is : IsPieceFrom first begin (p ∷ program) piece) (k : ℕ) → is.k ≡ k
       → IsAt first said.it.make 0 (0 + said.it.times) piece ⊎ IsPieceFrom (first + 1) mid program piece
   here_or_later piece is zero e =
-      let same : p ≡ is.said = same_Some p is.said (subst (λ (n : ℕ). slice_get (p ∷ program) n ≡ Some is.said) e is.stands) in
+      let same : p ≡ is.said = same_Some p is.said (subst (λ (n : ℕ). slice_get (p ∷ program) n ≡ Some is.said) e is.found) in
       let still : begin ≡ is.now = same_Ok begin is.now (subst (λ (n : ℕ). statements_done (take n (p ∷ program)) begin ≡ Ok is.now) e is.before) in
       let moved : written begin p.statement ≡ written is.now is.said.statement = (λ i. written (still i) (same i).statement) in
       let twice : said.it ≡ is.it = same_Ok said.it is.it (sym said.says ∙ moved ∙ is.says) in
@@ -278,7 +278,7 @@ module _ (first : ℕ) (begin mid : Expansion) (p : Placed) (program : List Plac
         k = k;
         number = omega (arith, is.number, e);
         said = is.said;
-        stands = subst (λ (n : ℕ). slice_get (p ∷ program) n ≡ Some is.said) e is.stands;
+        found = subst (λ (n : ℕ). slice_get (p ∷ program) n ≡ Some is.said) e is.found;
         now = is.now;
         before = sym (ap (λ (r : Result Expansion ExpandFault). r >>= statements_done (take k program)) step) ∙ before;
         it = is.it;
@@ -294,7 +294,7 @@ statements_come : (program : List Placed) (first : ℕ) (begin done : Expansion)
 statements_come [] first begin done h = (
   [],
   ap (λ (e : Expansion). e.made.ops) (sym (same_Ok begin done h)) ∙ sym (append-nil begin.made.ops),
-  none_come (IsPieceFrom first begin []) (λ piece is. none-some is.said is.stands),
+  none_come (IsPieceFrom first begin []) (λ piece is. none-some is.said is.found),
 )
 statements_come (p ∷ program) first begin done h =
     let step = then_ok (placed p.at (statement_done p.statement begin)) (statements_done program) done h in
@@ -316,7 +316,7 @@ from_start program piece is =
     let same : is.k ≡ piece.statement = omega (arith, is.number) in
     record {
       said = is.said;
-      stands = subst (λ (n : ℕ). slice_get program n ≡ Some is.said) same is.stands;
+      found = subst (λ (n : ℕ). slice_get program n ≡ Some is.said) same is.found;
       now = is.now;
       before = subst (λ (n : ℕ). statements_done (take n program) start ≡ Ok is.now) same is.before;
       it = is.it;
@@ -332,7 +332,7 @@ to_start program piece is = record {
   k = piece.statement;
   number = omega arith;
   said = is.said;
-  stands = is.stands;
+  found = is.found;
   now = is.now;
   before = is.before;
   it = is.it;

@@ -236,7 +236,7 @@ piece_own : (program : List Placed) → AreWellFormed program → AppliesNoBody 
 piece_own program all without piece is =
     let sound = statements_keep (take piece.statement program) start is.now
     (All-take (λ (p : Placed). IsWellFormed p.statement) piece.statement program all) start_sound is.before in
-    let said = all_here (λ (p : Placed). IsWellFormed p.statement) program piece.statement is.said all is.stands in
+    let said = all_here (λ (p : Placed). IsWellFormed p.statement) program piece.statement is.said all is.found in
     let alone = statement_own is.now sound is.said.statement is.it said is.says (without piece is) piece.index is.made is.within is.makes in
     record { is = is; op = alone.op; own = alone.own; alone = is.whole ∙ alone.ops }
 

@@ -22,7 +22,8 @@ abbrev pub op_of : Option Cond → Gate → List Angle → List Qubit → Result
 op_of cond Universal (theta ∷ phi ∷ lambda ∷ []) (qubit ∷ []) = Ok (Some (op.U theta phi lambda qubit cond))
 op_of cond ControlledNot angles (control ∷ target ∷ []) = Ok (Some (op.Cx control target cond))
 op_of cond (Opaque name params qubits) angles (first ∷ []) = Ok (Some (op.Opaque name angles first None cond))
-op_of cond (Opaque name params qubits) angles (first ∷ second ∷ []) = Ok (Some (op.Opaque name angles first (Some second) cond))
+op_of cond (Opaque name params qubits) angles (first ∷ second ∷ []) =
+    Ok (Some (op.Opaque name angles first (Some second) cond))
 op_of cond (Opaque name params qubits) angles (first ∷ second ∷ third ∷ more) = Err WideOp
 op_of cond gate angles qubits = Ok None
 
@@ -43,14 +44,16 @@ qubits_at qubits positions = map (λ k. slice_index_or qubits k (record { 0 = 0 
 abbrev pub Performing : Type 0
 Performing = ℕ → List Angle → List Qubit → Maker
 
--- An application with expressions for angles: it is counted, the angles are put for the parameters, and it is performed.
+-- An application with expressions for angles: it is counted, the angles are put for the parameters, and it is
+-- performed.
 abbrev pub applied : Performing → ℕ → List Term → List Angle → List Qubit → Maker
 applied perform gate params angles qubits made =
     counted made >>= λ now. put_all angles params >>= λ actual. perform gate actual qubits now
 
 -- an item of a body; a barrier has no condition
 abbrev pub item_made : Performing → List Angle → List Qubit → Item → Maker
-item_made perform angles qubits (Call gate params positions) = applied perform gate params angles (qubits_at qubits positions)
+item_made perform angles qubits (Call gate params positions) =
+    applied perform gate params angles (qubits_at qubits positions)
 item_made perform angles qubits (Barrier positions) = with_op (op.Barrier (qubits_at qubits positions))
 
 -- the items of a body in order

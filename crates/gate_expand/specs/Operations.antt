@@ -88,6 +88,7 @@ call_made gates cond gate params wires index = application_made gates cond gate 
 
 -- an operation makes these, spread over its registers, each under the condition
 abbrev pub resolved_made : List Gate → Option Cond → Resolved → Maker
-resolved_made gates cond (resolved.Application gate params wires times) = spread (call_made gates cond gate params wires) 0 times
+resolved_made gates cond (resolved.Application gate params wires times) =
+    spread (call_made gates cond gate params wires) 0 times
 resolved_made gates cond (resolved.Measure qubits bits creg times) = spread (measure_made cond qubits bits) 0 times
 resolved_made gates cond (resolved.Reset qubits times) = spread (reset_made cond qubits) 0 times

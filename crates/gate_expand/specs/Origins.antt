@@ -108,7 +108,7 @@ nothing = record { ops = []; applications = 0 }
 -- What the statement of that number makes at that index by itself, after the statements before it.
 pub record IsPiece (program : List Placed) (piece : Piece) : Type 0 where
   pub said : Placed
-  pub stands : slice_get program piece.statement ≡ Some said
+  pub found : slice_get program piece.statement ≡ Some said
   pub now : Expansion
   pub before : statements_done (take piece.statement program) start ≡ Ok now
   pub it : Written

@@ -87,7 +87,8 @@ unfoldable pub conditional_done : ℕ → ℕ → Qop → Statements
 conditional_done creg value qop now =
     qop_resolved now.table qop >>= λ resolved.
     refuse_if (measures_into creg resolved) SelfMeasure
-    >> resolved_made now.table.gates (Some (record { creg = record { 0 = creg }; value = value })) resolved now.made >>= with_made now
+    >> resolved_made now.table.gates (Some (record { creg = record { 0 = creg }; value = value })) resolved now.made
+    >>= with_made now
 
 -- the register is looked up first
 unfoldable pub conditional_statement : List ℕ → ℕ → Qop → Statements

@@ -37,7 +37,8 @@ entered gates cond frame =
 -- the rest of its body
 abbrev pub frame_made : List Gate → Option Cond → FrameValue → Maker
 frame_made gates cond frame =
-    items_made (performed gates cond frame.gate) frame.angles frame.qubits (drop frame.next (body_of (slice_get gates frame.gate)))
+    items_made (performed gates cond frame.gate) frame.angles frame.qubits
+    (drop frame.next (body_of (slice_get gates frame.gate)))
 
 -- the rests of all bodies, the innermost first
 abbrev pub frames_made : List Gate → Option Cond → List FrameValue → Maker
@@ -49,7 +50,8 @@ abbrev pub entered_first : List Gate → Option Cond → FrameValue → List Fra
 entered_first gates cond frame frames made = entered gates cond frame made >>= frames_made gates cond frames
 
 -- what a call left makes what is said, unless memory ran out
-abbrev pub LeavesWork : List Gate → Option Cond → Result (Unit {0}) Cause → List FrameValue → MadeValue → Result MadeValue Cause → Type 0
+abbrev pub LeavesWork : List Gate → Option Cond → Result (Unit {0}) Cause → List FrameValue → MadeValue
+    → Result MadeValue Cause → Type 0
 LeavesWork gates cond (Ok done) frames made said = said ≡ frames_made gates cond frames made
 LeavesWork gates cond (Err causes.NoMemory) frames made said = Unit {0}
 LeavesWork gates cond (Err e) frames made said = said ≡ Err e

@@ -1,4 +1,4 @@
-//! Qubits and bits that an argument stands for.
+//! Qubits and bits that an argument names.
 
 ghost use Rattle.std.specs.Prelude.{◌≡◌, fold, map, IfOk, OnOk};
 ghost use Rattle.std.specs.List.{list_any};

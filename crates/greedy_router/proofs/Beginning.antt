@@ -87,7 +87,7 @@ next_one place other = elim (cases_eq place other) [
   | inr differ ↦ other_one (suc place) (suc other) (λ same. differ (omega arith)) ∙ sym (other_one place other differ)
 ]
 
--- the list in which the ion of that number stands
+-- the list in which the ion of that number is
 record IsSettled (zone first n : ℕ) (lists : List (List Qubit)) (k : ℕ) : Type 0 where
   index : ℕ
   within : index < length lists
@@ -152,7 +152,7 @@ length-homes zone (list ∷ lists) =
 
 pub homes_start : (setting : SettingValue) → IsPlacement setting.trap setting.circuit setting.placement → AreHomes setting.trap (start_of setting.trap setting.placement) (homes_from 0 setting.placement)
 homes_start setting placed = record {
-  stands = λ ion h.
+  present = λ ion h.
       let it = settled 0 0 ion ion setting.placement (omega arith) (omega (arith, length-homes 0 setting.placement)) in
       let home : home_of (homes_from 0 setting.placement) ion ≡ it.index = it.home ∙ (omega arith) in
       record {

@@ -15,7 +15,7 @@ use Rattle.trap_model.specs.Joins.{joined_slot}
 use Rattle.trap_model.specs.Channels.{channels_of, channel_at, number_by, split, split_channel, move_channel, cross_channel, merge_channel}
 use Rattle.trap_model.specs.declared.channel.Channel.{Channel}
 use Rattle.trap_model.specs.declared.channel.Kind.{Kind}
-use Rattle.trap_model.specs.declared.channel.Kind.TheVariants as ways
+use Rattle.trap_model.specs.declared.channel.Kind.TheVariants as channel_kinds
 use Rattle.trap_model.specs.declared.port.SlotEnd.{SlotEnd}
 use Rattle.trap_model.proofs.Docks.{split_leads, merge_leads}
 use Rattle.trap_model.proofs.Moves.{move_leads}
@@ -39,7 +39,7 @@ use Rattle.step_rules.proofs.Kept.{channel_within}
 use Rattle.greedy_router.specs.declared.played.Played.{Played}
 use Rattle.greedy_router.specs.Serial.{IsSingle}
 use Rattle.greedy_router.specs.declared.traffic.Traffic.{Traffic}
-use Rattle.greedy_router.specs.Places.{count_of, one_if, one_if_both, home_of, StandsIn, AreHomes, IsMoved, IsCalm, OthersHaveFree}
+use Rattle.greedy_router.specs.Places.{count_of, one_if, one_if_both, home_of, IsInZone, AreHomes, IsMoved, IsCalm, OthersHaveFree}
 use Rattle.greedy_router.specs.Traffic.{IsPlayed, MayTravel, Acts, Carries, Brings, CanPass, IsTraffic, Travels}
 use Rattle.greedy_router.proofs.Counts.{one_same, one_apart, leaves_alone}
 use Rattle.greedy_router.proofs.Moves.{moved_none, moved_then, moved_through, homes_moved}
@@ -56,57 +56,57 @@ own_by trap number channel kind sound at is = subst (λ (k : Kind). number_by tr
 pub read_there : (trap : TrapValue) (number : ℕ) (channels : List Channel) (d : Channel) → channels ≡ channels_of trap → number < length (channels_of trap) → slice_get (channels_of trap) number ≡ Some (get_or channels number d)
 read_there trap number channels d is within = ap (λ (l : List Channel). slice_get l number) (sym is) ∙ slice_get-get_or channels number d (omega (arith, within, ap length is))
 
-pub split_read : (trap : TrapValue) (number : ℕ) (channels : List Channel) (d : Channel) → IsTrap trap → channels ≡ channels_of trap → number < length (channels_of trap) → (get_or channels number d).kind ≡ ways.Split
+pub split_read : (trap : TrapValue) (number : ℕ) (channels : List Channel) (d : Channel) → IsTrap trap → channels ≡ channels_of trap → number < length (channels_of trap) → (get_or channels number d).kind ≡ channel_kinds.Split
     → split_channel trap (get_or channels number d).from.0 (get_or channels number d).from_end ≡ slice_get (channels_of trap) number
 split_read trap number channels d sound is within kind =
     let it : Channel = get_or channels number d in
-    sym (split_leads trap it.from.0 it.from_end) ∙ ap (channel_at trap) (own_by trap number it ways.Split sound (read_there trap number channels d is within) kind)
+    sym (split_leads trap it.from.0 it.from_end) ∙ ap (channel_at trap) (own_by trap number it channel_kinds.Split sound (read_there trap number channels d is within) kind)
 
-pub move_read : (trap : TrapValue) (number : ℕ) (channels : List Channel) (d : Channel) → IsTrap trap → channels ≡ channels_of trap → number < length (channels_of trap) → (get_or channels number d).kind ≡ ways.Move
+pub move_read : (trap : TrapValue) (number : ℕ) (channels : List Channel) (d : Channel) → IsTrap trap → channels ≡ channels_of trap → number < length (channels_of trap) → (get_or channels number d).kind ≡ channel_kinds.Move
     → move_channel trap (get_or channels number d).from.0 (get_or channels number d).to.0 ≡ slice_get (channels_of trap) number
 move_read trap number channels d sound is within kind =
     let it : Channel = get_or channels number d in
-    sym (move_leads trap it.from.0 it.to.0) ∙ ap (channel_at trap) (own_by trap number it ways.Move sound (read_there trap number channels d is within) kind)
+    sym (move_leads trap it.from.0 it.to.0) ∙ ap (channel_at trap) (own_by trap number it channel_kinds.Move sound (read_there trap number channels d is within) kind)
 
-pub cross_read : (trap : TrapValue) (number : ℕ) (channels : List Channel) (d : Channel) (junction : JunctionId) → IsTrap trap → channels ≡ channels_of trap → number < length (channels_of trap) → (get_or channels number d).kind ≡ ways.Cross
+pub cross_read : (trap : TrapValue) (number : ℕ) (channels : List Channel) (d : Channel) (junction : JunctionId) → IsTrap trap → channels ≡ channels_of trap → number < length (channels_of trap) → (get_or channels number d).kind ≡ channel_kinds.Cross
     → (get_or channels number d).junction ≡ Some junction → cross_channel trap junction.0 (get_or channels number d).from.0 (get_or channels number d).to.0 ≡ slice_get (channels_of trap) number
 cross_read trap number channels d junction sound is within kind through =
     let it : Channel = get_or channels number d in
-    let own : number_by trap ways.Cross (Some junction) it ≡ Some number =
-    subst (λ (j : Option JunctionId). number_by trap ways.Cross j it ≡ Some number) through (own_by trap number it ways.Cross sound (read_there trap number channels d is within) kind) in
+    let own : number_by trap channel_kinds.Cross (Some junction) it ≡ Some number =
+    subst (λ (j : Option JunctionId). number_by trap channel_kinds.Cross j it ≡ Some number) through (own_by trap number it channel_kinds.Cross sound (read_there trap number channels d is within) kind) in
     sym (cross_leads trap junction.0 it.from.0 it.to.0) ∙ ap (channel_at trap) own
 
-pub merge_read : (trap : TrapValue) (number : ℕ) (channels : List Channel) (d : Channel) → IsTrap trap → channels ≡ channels_of trap → number < length (channels_of trap) → (get_or channels number d).kind ≡ ways.Merge
+pub merge_read : (trap : TrapValue) (number : ℕ) (channels : List Channel) (d : Channel) → IsTrap trap → channels ≡ channels_of trap → number < length (channels_of trap) → (get_or channels number d).kind ≡ channel_kinds.Merge
     → merge_channel trap (get_or channels number d).to.0 (get_or channels number d).to_end ≡ slice_get (channels_of trap) number
 merge_read trap number channels d sound is within kind =
     let it : Channel = get_or channels number d in
-    sym (merge_leads trap it.to.0 it.to_end) ∙ ap (channel_at trap) (own_by trap number it ways.Merge sound (read_there trap number channels d is within) kind)
+    sym (merge_leads trap it.to.0 it.to_end) ∙ ap (channel_at trap) (own_by trap number it channel_kinds.Merge sound (read_there trap number channels d is within) kind)
 
-crossed : (trap : TrapValue) (junction : Option JunctionId) (channel : Channel) (number : ℕ) → number_by trap ways.Cross junction channel ≡ Some number → IsSome junction
+crossed : (trap : TrapValue) (junction : Option JunctionId) (channel : Channel) (number : ℕ) → number_by trap channel_kinds.Cross junction channel ≡ Some number → IsSome junction
 crossed trap None channel number e = absurd (none-some number e)
 crossed trap (Some junction) channel number e = refl
 
 -- a crossing has a junction
-pub junction_read : (trap : TrapValue) (number : ℕ) (channels : List Channel) (d : Channel) → IsTrap trap → channels ≡ channels_of trap → number < length (channels_of trap) → (get_or channels number d).kind ≡ ways.Cross
+pub junction_read : (trap : TrapValue) (number : ℕ) (channels : List Channel) (d : Channel) → IsTrap trap → channels ≡ channels_of trap → number < length (channels_of trap) → (get_or channels number d).kind ≡ channel_kinds.Cross
     → IsSome (get_or channels number d).junction
 junction_read trap number channels d sound is within kind =
     let it : Channel = get_or channels number d in
-    crossed trap it.junction it number (own_by trap number it ways.Cross sound (read_there trap number channels d is within) kind)
+    crossed trap it.junction it number (own_by trap number it channel_kinds.Cross sound (read_there trap number channels d is within) kind)
 
 -- ---- through one channel
 
 -- the action takes the ion through that channel
-pub record IsWay (setting : SettingValue) (config : List (List Ion)) (ion number : ℕ) (action : Action) : Type 0 where
+pub record TakesThrough (setting : SettingValue) (config : List (List Ion)) (ion number : ℕ) (action : Action) : Type 0 where
   pub channel : Channel
   pub at : slice_get (channels_of setting.trap) number ≡ Some channel
   pub led : channel_for setting.trap action ≡ Some channel
   pub single : IsSingle action
   pub can : CanPass setting.trap config ion channel.from.0 channel.to.0
 
-pub way : (setting : SettingValue) (trap : TrapValue) (config : List (List Ion)) (ion number : ℕ) (action : Action) → trap ≡ setting.trap → number < length (channels_of setting.trap)
+pub takes_through : (setting : SettingValue) (trap : TrapValue) (config : List (List Ion)) (ion number : ℕ) (action : Action) → trap ≡ setting.trap → number < length (channels_of setting.trap)
     → ((channel : Channel) → slice_get (channels_of setting.trap) number ≡ Some channel → CanPass setting.trap config ion channel.from.0 channel.to.0)
-    → channel_for trap action ≡ slice_get (channels_of trap) number → IsSingle action → IsWay setting config ion number action
-way setting trap config ion number action same within can leads single = elim ((slice_get_cases (channels_of setting.trap) number).1) [
+    → channel_for trap action ≡ slice_get (channels_of trap) number → IsSingle action → TakesThrough setting config ion number action
+takes_through setting trap config ion number action same within can leads single = elim ((slice_get_cases (channels_of setting.trap) number).1) [
   | inl there ↦ record {
     channel = there.0;
     at = there.2;
@@ -139,24 +139,24 @@ zone_there trap zone end channel e = elim (cases_lt zone (length trap.zones)) [
   | inr past ↦ absurd (none-some channel (sym (ap (λ (slot : Option SlotEnd). option_map (split zone end) slot) (no_joined trap zone end past)) ∙ e))
 ]
 
-pub split_there : (setting : SettingValue) (config : List (List Ion)) (ion number count : ℕ) (zone : PlaceId) (end : End) → IsWay setting config ion number (kinds.Split zone end count) → zone.0 < length setting.trap.zones
+pub split_there : (setting : SettingValue) (config : List (List Ion)) (ion number count : ℕ) (zone : PlaceId) (end : End) → TakesThrough setting config ion number (kinds.Split zone end count) → zone.0 < length setting.trap.zones
 split_there setting config ion number count zone end it = zone_there setting.trap zone.0 end it.channel it.led
 
-pub split_stands : (setting : SettingValue) (config : List (List Ion)) (ion number count : ℕ) (zone : PlaceId) (end : End) → IsWay setting config ion number (kinds.Split zone end count) → 1 ≤ count_of ion (list_at config zone.0)
-split_stands setting config ion number count zone end it =
+pub split_present : (setting : SettingValue) (config : List (List Ion)) (ion number count : ℕ) (zone : PlaceId) (end : End) → TakesThrough setting config ion number (kinds.Split zone end count) → 1 ≤ count_of ion (list_at config zone.0)
+split_present setting config ion number count zone end it =
     let from = (of_slot zone.0 end (joined_slot setting.trap zone.0 end) it.channel it.led).0 in
-    subst (λ (place : ℕ). 1 ≤ count_of ion (list_at config place)) (sym from) it.can.stands
+    subst (λ (place : ℕ). 1 ≤ count_of ion (list_at config place)) (sym from) it.can.present
 
 -- what can pass still can, once ions changed places within their zone
 can_still : (trap : TrapValue) (before after : List (List Ion)) (ion from to : ℕ) → IsMoved before after ion from from → CanPass trap before ion from to → CanPass trap after ion from to
 can_still trap before after ion from to moved can = record {
-  stands = omega (arith, can.stands, moved.ions ion from);
+  present = omega (arith, can.present, moved.ions ion from);
   alone = λ past. omega (arith, can.alone past, moved.lengths from);
   empty = λ past. omega (arith, can.empty past, moved.lengths to);
   free = λ there. omega (arith, can.free there, moved.lengths to);
 }
 
-set_split : (setting : SettingValue) (old middle : Played) (ion : Ion) (number count : ℕ) (zone : PlaceId) (end : End) → IsWay setting old.config.lists ion.0 number (kinds.Split zone end count)
+set_split : (setting : SettingValue) (old middle : Played) (ion : Ion) (number count : ℕ) (zone : PlaceId) (end : End) → TakesThrough setting old.config.lists ion.0 number (kinds.Split zone end count)
     → Brings setting old middle zone.0 ion end → IsSet setting old middle ion number (kinds.Split zone end count)
 set_split setting old middle ion number count zone end it brought =
     let channel : Channel = it.channel in
@@ -186,14 +186,14 @@ only_one trap config action channel ion sound single e can in_config apart all =
     ap (λ (l : List (List Ion)). list_at l from)
     (ap (λ (count : ℕ). after_transfer config (transfer channel count)) (sym all) ∙ sym (after_any trap config action channel e) ∙ after_through trap config action channel ion sound single e can) in
     let lengths : length (left channel.from_end (length source) source) ≡ length (left channel.from_end 1 source) = ap length (sym (stays (length source)) ∙ same ∙ stays 1) in
-    omega (arith, lengths, length-left channel.from_end (length source) source, length-left channel.from_end 1 source, some_stand ion source can.stands)
+    omega (arith, lengths, length-left channel.from_end (length source) source, length-left channel.from_end 1 source, some_present ion source can.present)
   where
-    some_stand : (ion : ℕ) (ions : List Ion) → 1 ≤ count_of ion ions → 1 ≤ length ions
-    some_stand ion [] h = absurd (omega arith)
-    some_stand ion (other ∷ ions) h = omega arith
+    some_present : (ion : ℕ) (ions : List Ion) → 1 ≤ count_of ion ions → 1 ≤ length ions
+    some_present ion [] h = absurd (omega arith)
+    some_present ion (other ∷ ions) h = omega arith
 
 set_whole : (setting : SettingValue) (old : Played) (ion : Ion) (number : ℕ) (action : Action) → IsTrap setting.trap → IsPlayed setting old → MayTravel setting old.actions.items
-    → ((ions : List Ion) → passing action ions ≡ length ions) → IsWay setting old.config.lists ion.0 number action → IsSet setting old old ion number action
+    → ((ions : List Ion) → passing action ions ≡ length ions) → TakesThrough setting old.config.lists ion.0 number action → IsSet setting old old ion number action
 set_whole setting old ion number action sound is travels all it =
     let channel : Channel = it.channel in
     let within : IsWithin setting.trap channel = channel_within setting.trap action channel sound it.led in
@@ -207,11 +207,11 @@ set_whole setting old ion number action sound is travels all it =
       single = it.single;
       carries = record { goes = record { played = is; travels = travels; ops = refl }; moved = moved_none old.config.lists ion.0 channel.from.0 };
       can = it.can;
-      leaves = leaves_alone channel.from_end source ion one it.can.stands;
+      leaves = leaves_alone channel.from_end source ion one it.can.present;
     }
 
 pub set_brought : (setting : SettingValue) (old brought middle : Played) (ion : Ion) (number count : ℕ) (zone : PlaceId) (end : End) (action : Action) → middle ≡ brought → action ≡ kinds.Split zone end count
-    → IsWay setting old.config.lists ion.0 number (kinds.Split zone end count) → Brings setting old brought zone.0 ion end → IsSet setting old middle ion number action
+    → TakesThrough setting old.config.lists ion.0 number (kinds.Split zone end count) → Brings setting old brought zone.0 ion end → IsSet setting old middle ion number action
 set_brought setting old brought middle ion number count zone end action same is it did =
     subst (λ (p : Played). IsSet setting old p ion number action) (sym same)
     (subst (λ (a : Action). IsSet setting old brought ion number a) (sym is) (set_split setting old brought ion number count zone end it did))
@@ -226,7 +226,7 @@ all_pass (kinds.Swap zone index) none ions = refl
 all_pass (kinds.Op zone op) none ions = refl
 
 pub set_at_once : (setting : SettingValue) (old middle : Played) (ion : Ion) (number : ℕ) (found action : Action) → IsTrap setting.trap → IsPlayed setting old → MayTravel setting old.actions.items → middle ≡ old → action ≡ found
-    → ((zone : PlaceId) (end : End) (count : ℕ) → found ≡ kinds.Split zone end count → ⊥) → IsWay setting old.config.lists ion.0 number found → IsSet setting old middle ion number action
+    → ((zone : PlaceId) (end : End) (count : ℕ) → found ≡ kinds.Split zone end count → ⊥) → TakesThrough setting old.config.lists ion.0 number found → IsSet setting old middle ion number action
 set_at_once setting old middle ion number found action sound is travels same here none it =
     subst (λ (p : Played). IsSet setting old p ion number action) (sym same)
     (subst (λ (a : Action). IsSet setting old old ion number a) (sym here) (set_whole setting old ion number found sound is travels (all_pass found none) it))
@@ -254,7 +254,7 @@ pub went : (setting : SettingValue) (old middle new : Played) (ion : Ion) (numbe
 went setting old middle new ion number action sound it did channel at =
     subst (λ (c : Channel). Carries setting old new ion.0 c.from.0 c.to.0) (same_Some it.channel channel (sym it.at ∙ at)) (went_by setting old middle new ion number action sound it did)
 
--- ---- on the way to the target
+-- ---- before the target
 
 starts_here : (trap : TrapValue) (distances : DistancesValue) (place number : ℕ) (channel : Channel) → AreDistances trap distances → next_at distances place ≡ Some number → slice_get (channels_of trap) number ≡ Some channel → channel.from.0 ≡ place
 starts_here trap distances place number channel are next at =
@@ -265,18 +265,18 @@ same_ion : (ion place other : ℕ) → one_if_both ion ion place other ≡ one_i
 same_ion ion place other = ap (λ b. cond {A = ℕ} (b && place == other) 1 0) (eq-eqb ion ion refl)
 
 -- an ion that has gone from its zone to that place can go on
-can_go_on : (setting : SettingValue) (old middle : Played) (ion from place : ℕ) (channel : Channel) → IsPlayed setting old → IsCalm setting.trap old.config.lists → StandsIn setting.trap old.config.lists ion from
+can_continue : (setting : SettingValue) (old middle : Played) (ion from place : ℕ) (channel : Channel) → IsPlayed setting old → IsCalm setting.trap old.config.lists → IsInZone setting.trap old.config.lists ion from
     → OthersHaveFree setting.trap old.config.lists 1 from → IsMoved old.config.lists middle.config.lists ion from place → channel.from.0 ≡ place → channel.from.0 ≢ channel.to.0
     → CanPass setting.trap middle.config.lists ion channel.from.0 channel.to.0
-can_go_on setting old middle ion from place channel is calm stands free moved starts apart =
+can_continue setting old middle ion from place channel is calm present free moved starts apart =
     let trap : TrapValue = setting.trap in
     let start : ℕ = channel.from.0 in
     let end : ℕ = channel.to.0 in
     let here : one_if start place ≡ 1 = one_same start place starts in
     let not_there : one_if end place ≡ 0 = one_apart end place (λ e. apart (starts ∙ sym e)) in
     record {
-      stands = omega (arith, moved.ions ion start, stands.once start, same_ion ion start from, same_ion ion start place, here);
-      alone = λ past. omega (arith, moved.lengths start, here, ap length (calm.slots start past), one_apart start from (λ e. absurd (omega (arith, e, past, stands.there))));
+      present = omega (arith, moved.ions ion start, present.once start, same_ion ion start from, same_ion ion start place, here);
+      alone = λ past. omega (arith, moved.lengths start, here, ap length (calm.slots start past), one_apart start from (λ e. absurd (omega (arith, e, past, present.there))));
       empty = λ past. omega (arith, moved.lengths end, not_there, ap length (calm.slots end past));
       free = λ there. elim (cases_eq end from) [
         | inl back ↦ omega (arith, moved.lengths end, not_there, one_same end from back, is.config.within end (omega arith))
@@ -285,10 +285,10 @@ can_go_on setting old middle ion from place channel is calm stands free moved st
     }
 
 pub goes_through : (setting : SettingValue) (old middle : Played) (distances : DistancesValue) (ion from place number : ℕ) → IsTrap setting.trap → IsPlayed setting old → IsCalm setting.trap old.config.lists
-    → StandsIn setting.trap old.config.lists ion from → OthersHaveFree setting.trap old.config.lists 1 from → AreDistances setting.trap distances → next_at distances place ≡ Some number
+    → IsInZone setting.trap old.config.lists ion from → OthersHaveFree setting.trap old.config.lists 1 from → AreDistances setting.trap distances → next_at distances place ≡ Some number
     → Carries setting old middle ion from place → (channel : Channel) → slice_get (channels_of setting.trap) number ≡ Some channel → CanPass setting.trap middle.config.lists ion channel.from.0 channel.to.0
-goes_through setting old middle distances ion from place number sound is calm stands free are next did channel at =
-    can_go_on setting old middle ion from place channel is calm stands free did.moved (starts_here setting.trap distances place number channel are next at) (ends_apart setting.trap number channel sound at)
+goes_through setting old middle distances ion from place number sound is calm present free are next did channel at =
+    can_continue setting old middle ion from place channel is calm present free did.moved (starts_here setting.trap distances place number channel are next at) (ends_apart setting.trap number channel sound at)
 
 pub next_carries : (setting : SettingValue) (old middle new : Played) (distances : DistancesValue) (ion from place number : ℕ) (channels : List Channel) (d : Channel) → AreDistances setting.trap distances
     → next_at distances place ≡ Some number → channels ≡ channels_of setting.trap → number < length (channels_of setting.trap) → Carries setting old middle ion from place
@@ -344,7 +344,7 @@ travelled setting old new ion to is h there did items =
         traffic = record {
           played = did.goes.played;
           homes = subst (λ (homes : List PlaceId). AreHomes trap now homes) (sym items) (homes_moved trap before now old.homes.items ion to is.homes h did.moved there);
-          calm = calm_moved trap before now ion from to.0 is.calm did.moved ((is.homes.stands ion h).there) there;
+          calm = calm_moved trap before now ion from to.0 is.calm did.moved ((is.homes.present ion h).there) there;
           len = ap length items ∙ length-set old.homes.items ion to ∙ is.len;
         };
         travels = did.goes.travels;

@@ -15,7 +15,7 @@ use Rattle.greedy_router.specs.Serial.{ops_of}
 use Rattle.greedy_router.specs.Traffic.{IsTraffic, Flows, Travels, Gathers, Comes, ready_after}
 use Rattle.greedy_router.proofs.Spare.{another_roomy}
 use Rattle.greedy_router.proofs.Crowds.{others_free}
-use Rattle.greedy_router.proofs.Rounds.{stays_there, comes_there, home_stands, together_in, job_in_homes, next_here, fewer_undone}
+use Rattle.greedy_router.proofs.Rounds.{stays_there, comes_there, home_present, together_in, job_in_homes, next_here, fewer_undone}
 use Rattle.greedy_router.proofs.Undone.{undone}
 
 -- where a zone has fewer than two free places, some zone has three
@@ -40,7 +40,7 @@ gathered_one map old new zone op job is at traffic free able alone travels =
       };
       together = together_in map new.played.config.lists zone op job is at able
           (comes_there old.played.config.lists new.played.config.lists job.first.0 from zone travels.moved
-          (home_stands map.setting.trap old.played.config.lists old.homes.items job.first.0 traffic.homes within.0))
+          (home_present map.setting.trap old.played.config.lists old.homes.items job.first.0 traffic.homes within.0))
           (subst (λ (second : Option Ion). IfSome second (λ (ion : Ion). 1 ≤ count_of ion.0 (list_at new.played.config.lists zone))) (sym alone) tt);
     }
 
@@ -67,9 +67,9 @@ gathered_two map old middle new zone op job second is at traffic free able two f
       };
       together = together_in map c zone op job is at able
           (stays_there b c second.0 job.first.0 from_second zone last.moved
-          (comes_there a b job.first.0 from zone first.moved (home_stands map.setting.trap a old.homes.items job.first.0 traffic.homes within.0)))
+          (comes_there a b job.first.0 from zone first.moved (home_present map.setting.trap a old.homes.items job.first.0 traffic.homes within.0)))
           (subst (λ (it : Option Ion). IfSome it (λ (ion : Ion). 1 ≤ count_of ion.0 (list_at c zone))) (sym two)
-          (comes_there b c second.0 from_second zone last.moved (home_stands map.setting.trap b middle.homes.items second.0 first.flows.traffic.homes second_within)));
+          (comes_there b c second.0 from_second zone last.moved (home_present map.setting.trap b middle.homes.items second.0 first.flows.traffic.homes second_within)));
     }
 
 -- what is ready stays ready while ions travel

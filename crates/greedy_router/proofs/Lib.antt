@@ -7,7 +7,7 @@ pub mod Crowds
 pub mod Meeting
 pub mod Whole
 pub mod Undone
-pub mod Ways
+pub mod Routes
 pub mod Jobs
 pub mod Beginning
 pub mod RoomAnswers

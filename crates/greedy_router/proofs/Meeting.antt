@@ -41,9 +41,9 @@ both_true false b e = absurd (false≢true e)
 all_among : (placement : List (List Qubit)) (ions : List Ion) (qubits : List Qubit) → All (λ (ion : Ion). 1 ≤ count_of ion.0 ions) (map (ion_of placement) qubits) → list_all (is_among placement ions) qubits ≡ true
 all_among placement ions [] all = refl
 all_among placement ions (qubit ∷ qubits) all =
-    let stands : Ion → Type 0 = λ ion. 1 ≤ count_of ion.0 ions in
-    let first : is_among placement ions qubit ≡ true = some_passes (λ (ion : Ion). ion.0 == (ion_of placement qubit).0) ions (All-head stands (ion_of placement qubit) (map (ion_of placement) qubits) all) in
-    let rest : list_all (is_among placement ions) qubits ≡ true = all_among placement ions qubits (All-tail stands (ion_of placement qubit) (map (ion_of placement) qubits) all) in
+    let present : Ion → Type 0 = λ ion. 1 ≤ count_of ion.0 ions in
+    let first : is_among placement ions qubit ≡ true = some_passes (λ (ion : Ion). ion.0 == (ion_of placement qubit).0) ions (All-head present (ion_of placement qubit) (map (ion_of placement) qubits) all) in
+    let rest : list_all (is_among placement ions) qubits ≡ true = all_among placement ions qubits (All-tail present (ion_of placement qubit) (map (ion_of placement) qubits) all) in
     ap (λ (b : Bool). b && list_all (is_among placement ions) qubits) first ∙ rest
 
 among_all : (placement : List (List Qubit)) (ions : List Ion) (qubits : List Qubit) → list_all (is_among placement ions) qubits ≡ true → All (λ (ion : Ion). 1 ≤ count_of ion.0 ions) (map (ion_of placement) qubits)

@@ -16,7 +16,7 @@ use Rattle.ion_chain.proofs.Passed.{length-outward, length-left}
 use Rattle.ion_chain.proofs.Transfers.{list_at-after_transfer}
 use Rattle.step_rules.specs.ActionChannel.{transfer}
 use Rattle.route_find.proofs.Rows.{slice_get_set_same, slice_get_set_other}
-use Rattle.greedy_router.specs.Places.{count_of, one_if, one_if_both, StandsIn, AreHomes, IsMoved, home_of}
+use Rattle.greedy_router.specs.Places.{count_of, one_if, one_if_both, IsInZone, AreHomes, IsMoved, home_of}
 use Rattle.greedy_router.proofs.Counts.{one_same, one_apart, count-left, count-joined, count-swap}
 
 -- ---- pairs of numbers
@@ -143,16 +143,16 @@ moved_swap config zone index ion there h =
 
 -- ---- where ions are then
 
-pub stands_moved : (trap : TrapValue) (before after : List (List Ion)) (ion from to : ℕ) → StandsIn trap before ion from → IsMoved before after ion from to → to < length trap.zones → StandsIn trap after ion to
-stands_moved trap before after ion from to stands moved there = record {
+pub present_moved : (trap : TrapValue) (before after : List (List Ion)) (ion from to : ℕ) → IsInZone trap before ion from → IsMoved before after ion from to → to < length trap.zones → IsInZone trap after ion to
+present_moved trap before after ion from to present moved there = record {
   there = there;
-  once = λ place. omega (arith, moved.ions ion place, stands.once place, same_ion ion place from, same_ion ion place to);
+  once = λ place. omega (arith, moved.ions ion place, present.once place, same_ion ion place from, same_ion ion place to);
 }
 
-pub stands_still : (trap : TrapValue) (before after : List (List Ion)) (ion from to other zone : ℕ) → StandsIn trap before other zone → IsMoved before after ion from to → other ≢ ion → StandsIn trap after other zone
-stands_still trap before after ion from to other zone stands moved apart = record {
-  there = stands.there;
-  once = λ place. omega (arith, moved.ions other place, stands.once place, other_ion ion other place from apart, other_ion ion other place to apart);
+pub present_still : (trap : TrapValue) (before after : List (List Ion)) (ion from to other zone : ℕ) → IsInZone trap before other zone → IsMoved before after ion from to → other ≢ ion → IsInZone trap after other zone
+present_still trap before after ion from to other zone present moved apart = record {
+  there = present.there;
+  once = λ place. omega (arith, moved.ions other place, present.once place, other_ion ion other place from apart, other_ion ion other place to apart);
 }
 
 home_same : (homes : List PlaceId) (ion : ℕ) (to : PlaceId) → ion < length homes → home_of (slice_set homes ion to) ion ≡ to.0
@@ -168,13 +168,13 @@ homes_moved trap before after homes ion to are h moved there =
     let len : length new ≡ length homes = length-set homes ion to in
     let from : ℕ = home_of homes ion in
     record {
-      stands = λ other in_homes. elim (cases_eq other ion) [
+      present = λ other in_homes. elim (cases_eq other ion) [
         | inl same ↦
-            subst (λ (i : ℕ). StandsIn trap after i (home_of new i)) (sym same)
-            (subst (StandsIn trap after ion) (sym (home_same homes ion to h)) (stands_moved trap before after ion from to.0 (are.stands ion h) moved there))
+            subst (λ (i : ℕ). IsInZone trap after i (home_of new i)) (sym same)
+            (subst (IsInZone trap after ion) (sym (home_same homes ion to h)) (present_moved trap before after ion from to.0 (are.present ion h) moved there))
         | inr apart ↦
-            subst (StandsIn trap after other) (sym (home_other homes ion other to apart))
-            (stands_still trap before after ion from to.0 other (home_of homes other) (are.stands other (omega (arith, in_homes, len))) moved apart)
+            subst (IsInZone trap after other) (sym (home_other homes ion other to apart))
+            (present_still trap before after ion from to.0 other (home_of homes other) (are.present other (omega (arith, in_homes, len))) moved apart)
       ];
       known = λ other place some. elim (cases_eq other ion) [
         | inl same ↦ omega (arith, same, h, len)

@@ -17,7 +17,7 @@ use Rattle.trap_model.specs.Build.{IsTrap}
 use Rattle.trap_model.specs.Channels.{channel as channel_of, channels_of, channel_at, number_by, split, merge, cross, split_channel, merge_channel, move_channel, cross_channel, same_segment, arm_of}
 use Rattle.trap_model.specs.declared.channel.Channel.{Channel}
 use Rattle.trap_model.specs.declared.channel.Kind.{Kind}
-use Rattle.trap_model.specs.declared.channel.Kind.TheVariants as ways
+use Rattle.trap_model.specs.declared.channel.Kind.TheVariants as channel_kinds
 use Rattle.trap_model.specs.declared.port.Link.{Link}
 use Rattle.trap_model.specs.declared.port.Link.TheVariants as links
 use Rattle.trap_model.specs.declared.port.Slot.{Slot}
@@ -72,9 +72,9 @@ some_ion : (ions : List Ion) → 1 ≤ length ions → not (is_empty ions) ≡ t
 some_ion [] h = absurd (omega arith)
 some_ion (ion ∷ ions) h = refl
 
-some_stand : (ion : ℕ) (ions : List Ion) → 1 ≤ count_of ion ions → 1 ≤ length ions
-some_stand ion [] h = absurd (omega arith)
-some_stand ion (other ∷ ions) h = omega arith
+some_present : (ion : ℕ) (ions : List Ion) → 1 ≤ count_of ion ions → 1 ≤ length ions
+some_present ion [] h = absurd (omega arith)
+some_present ion (other ∷ ions) h = omega arith
 
 zone_is : (trap : TrapValue) (zone : ℕ) → zone < length trap.zones → is_zone trap zone ≡ true
 zone_is trap zone h = lt-ltb zone (length trap.zones) h
@@ -189,7 +189,7 @@ move_ends : (trap : TrapValue) (from to : ℕ) (channel : Channel) → move_chan
 move_ends trap from to channel e =
     let ends = moving_ends trap from to channel e in
     let one : same_segment (slot_at trap from) (slot_at trap to) ≡ true =
-    in_one_segment (same_segment (slot_at trap from) (slot_at trap to)) (cond (to == from + 1) (Some (channel_of ways.Move from B to A None)) (cond (from == to + 1) (Some (channel_of ways.Move from A to B None)) None)) channel e in
+    in_one_segment (same_segment (slot_at trap from) (slot_at trap to)) (cond (to == from + 1) (Some (channel_of channel_kinds.Move from B to A None)) (cond (from == to + 1) (Some (channel_of channel_kinds.Move from A to B None)) None)) channel e in
     let slots = both_slots (slot_at trap from) (slot_at trap to) one in
     record { from_is = ends.0; to_is = ends.1; from_after_zones = after_zones_of trap from slots.0; to_after_zones = after_zones_of trap to slots.1 }
 
@@ -253,7 +253,7 @@ split_passes trap config zone count end channel ion sound single e below can =
     let ends = split_ends trap zone end channel sound e in
     let source : List Ion = list_at config channel.from.0 in
     let target : List Ion = list_at config channel.to.0 in
-    let some : 1 ≤ length source = some_stand ion source can.stands in
+    let some : 1 ≤ length source = some_present ion source can.present in
     let holds : 1 ≤ limit_of trap channel.to.0 = slot_holds trap channel.to.0 sound ends.after_zones below in
     let counts : is_count_of count source ≡ true = and_from (nat_le 1 count) (nat_le count (length source)) (le-leb 1 count (omega (arith, single))) (le-leb count (length source) (omega (arith, single, some))) in
     five_pass (is_zone trap zone) true (is_count_of count source) (nat_le count (limit_of trap channel.to.0)) (is_empty target) rules.NoPlace rules.NoJoin rules.Index rules.Load rules.Occupied
@@ -268,7 +268,7 @@ move_passes trap config from to channel ion e within can =
     let places : (is_slot trap from && is_slot trap to) ≡ true =
     and_from (is_slot trap from) (is_slot trap to) (slot_is trap from ends.from_after_zones (omega (arith, within.from, ends.from_is))) (slot_is trap to ends.to_after_zones (omega (arith, within.to, ends.to_is))) in
     four_pass (is_slot trap from && is_slot trap to) true (not (is_empty source)) (is_empty target) rules.NoPlace rules.NoJoin rules.Empty rules.Occupied
-    places refl (some_ion source (some_stand ion source can.stands)) (no_ion target (can.empty (omega (arith, ends.to_after_zones, ends.to_is))))
+    places refl (some_ion source (some_present ion source can.present)) (no_ion target (can.empty (omega (arith, ends.to_after_zones, ends.to_is))))
 
 cross_passes : (trap : TrapValue) (config : List (List Ion)) (junction from to : ℕ) (channel : Channel) (ion : ℕ) → IsTrap trap → cross_channel trap junction from to ≡ Some channel → IsWithin trap channel
     → CanPass trap config ion channel.from.0 channel.to.0 → first_broken (cross_guards trap config junction from to (Some channel)) ≡ None
@@ -335,26 +335,26 @@ after_through trap config action channel ion sound single e can =
 
 -- ---- the two ends of a channel
 
-led : (trap : TrapValue) (found : Option ℕ) (number : ℕ) (way : Option Channel) (channel : Channel) → channel_at trap found ≡ way → found ≡ Some number → slice_get (channels_of trap) number ≡ Some channel → way ≡ Some channel
-led trap found number way channel leads is at = sym leads ∙ ap (channel_at trap) is ∙ at
+led : (trap : TrapValue) (found : Option ℕ) (number : ℕ) (leading : Option Channel) (channel : Channel) → channel_at trap found ≡ leading → found ≡ Some number → slice_get (channels_of trap) number ≡ Some channel → leading ≡ Some channel
+led trap found number leading channel leads is at = sym leads ∙ ap (channel_at trap) is ∙ at
 
 apart_by : (trap : TrapValue) (number : ℕ) (kind : Kind) (junction : Option JunctionId) (channel : Channel) → IsTrap trap → slice_get (channels_of trap) number ≡ Some channel → number_by trap kind junction channel ≡ Some number
     → channel.from.0 ≢ channel.to.0
-apart_by trap number ways.Split junction channel sound at is same =
+apart_by trap number channel_kinds.Split junction channel sound at is same =
     let ends = split_ends trap channel.from.0 channel.from_end channel sound (led trap _ number _ channel (split_leads trap channel.from.0 channel.from_end) is at) in
     absurd (omega (arith, ends.there, ends.after_zones, same))
-apart_by trap number ways.Move junction channel sound at is same =
+apart_by trap number channel_kinds.Move junction channel sound at is same =
     let from : ℕ = channel.from.0 in
     let to : ℕ = channel.to.0 in
     let none : move_channel trap from to ≡ None = no_move_apart trap from to (ne_eqb to (from + 1) (λ e. absurd (omega (arith, e, same)))) (ne_eqb from (to + 1) (λ e. absurd (omega (arith, e, same)))) in
     none-some channel (sym none ∙ led trap _ number _ channel (move_leads trap from to) is at)
-apart_by trap number ways.Cross None channel sound at is same = absurd cc
-apart_by trap number ways.Cross (Some junction) channel sound at is same =
+apart_by trap number channel_kinds.Cross None channel sound at is same = absurd cc
+apart_by trap number channel_kinds.Cross (Some junction) channel sound at is same =
     let from : ℕ = channel.from.0 in
     let to : ℕ = channel.to.0 in
     let differ : (from == to) ≡ false = (unless_same (from == to) _ channel (led trap _ number _ channel (cross_leads trap junction.0 from to) is at)).0 in
     absurd (cc (differ, eq-eqb from to same))
-apart_by trap number ways.Merge junction channel sound at is same =
+apart_by trap number channel_kinds.Merge junction channel sound at is same =
     let ends = merge_ends trap channel.to.0 channel.to_end channel sound (led trap _ number _ channel (merge_leads trap channel.to.0 channel.to_end) is at) in
     absurd (omega (arith, ends.there, ends.after_zones, same))
 

@@ -32,7 +32,7 @@ use Rattle.greedy_router.specs.declared.has_room.RoomFault.{RoomFault}
 use Rattle.greedy_router.specs.declared.has_room.RoomFault.TheVariants.{Tight, Apart, NoAble, NoMemory}
 use Rattle.greedy_router.specs.Room.{IsApart, IsLeast, AreFree, Causes, ComesFirst, IsFirst}
 use Rattle.greedy_router.specs.Places.{count_of, one_if_both, home_of, AreHomes, IsMoved}
-use Rattle.greedy_router.specs.Routing.{MapValue, IsMap, AreWays, AreJobs, GivesJob, IsWithin}
+use Rattle.greedy_router.specs.Routing.{MapValue, IsMap, AreZoneDistances, AreJobs, GivesJob, IsWithin}
 use Rattle.greedy_router.specs.Serial.{config_after, IsTogether, IsPossible, IsNext}
 use Rattle.greedy_router.specs.Traffic.{ready_after}
 use Rattle.greedy_router.proofs.Beginning.{homes_from}
@@ -58,20 +58,20 @@ slice_get_pushed (z ∷ xs) y (suc k) x e = elim (slice_get_pushed xs y k x e) [
 
 -- ---- zones that can't be reached
 
-no_way : (trap : TrapValue) (from to : ℕ) (distance : Option ℕ) → IsDistance trap from to distance → distance ≡ None → ¬ IsReachable trap from to
-no_way trap from to None none e = none
-no_way trap from to (Some distance) is e = absurd cc
+no_route : (trap : TrapValue) (from to : ℕ) (distance : Option ℕ) → IsDistance trap from to distance → distance ≡ None → ¬ IsReachable trap from to
+no_route trap from to None none e = none
+no_route trap from to (Some distance) is e = absurd cc
 
-some_way : (trap : TrapValue) (from to : ℕ) (distance : Option ℕ) → IsDistance trap from to distance → IsSome distance → IsReachable trap from to
-some_way trap from to None none some = absurd (false≢true some)
-some_way trap from to (Some distance) is some = (is.0, is.1.0.leads)
+some_route : (trap : TrapValue) (from to : ℕ) (distance : Option ℕ) → IsDistance trap from to distance → IsSome distance → IsReachable trap from to
+some_route trap from to None none some = absurd (false≢true some)
+some_route trap from to (Some distance) is some = (is.0, is.1.0.leads)
 
 pub zone_apart : (setting : SettingValue) (distances : DistancesValue) (zone : ℕ) → AreDistances setting.trap distances → distances.target ≡ 0 → zone < length setting.trap.zones
     → distance_at distances zone ≡ None → ((k : ℕ) → k < zone → IsReachable setting.trap 0 k) → IsLeast (IsApart setting) zone
 zone_apart setting distances zone are target within none below = record {
   has = record {
     there = within;
-    apart = λ reached. no_way setting.trap zone distances.target (distance_at distances zone) (are.each zone) none
+    apart = λ reached. no_route setting.trap zone distances.target (distance_at distances zone) (are.each zone) none
         (subst (λ (to : ℕ). IsReachable setting.trap zone to) (sym target) (reached_back setting.trap 0 zone reached));
   };
   least = λ other is. let late : other < zone → ⊥ = λ h. is.apart (below other h) in omega (arith, late);
@@ -79,7 +79,7 @@ zone_apart setting distances zone are target within none below = record {
 
 pub zone_reached : (trap : TrapValue) (distances : DistancesValue) (zone : ℕ) → AreDistances trap distances → distances.target ≡ 0 → IsSome (distance_at distances zone) → IsReachable trap 0 zone
 zone_reached trap distances zone are target some =
-    reached_back trap zone 0 (subst (λ (to : ℕ). IsReachable trap zone to) target (some_way trap zone distances.target (distance_at distances zone) (are.each zone) some))
+    reached_back trap zone 0 (subst (λ (to : ℕ). IsReachable trap zone to) target (some_route trap zone distances.target (distance_at distances zone) (are.each zone) some))
 
 pub none_from : (found : Option ℕ) → is_some found ≡ false → found ≡ None
 none_from None e = refl
@@ -94,13 +94,13 @@ apart_first setting zone free least NoMemory cause = absurd cause
 pub first_apart : (setting : SettingValue) (zone : PlaceId) → AreFree setting → IsLeast (IsApart setting) zone.0 → IsFirst setting (Apart zone)
 first_apart setting zone free least = record { cause = least.has; first = apart_first setting zone free least }
 
--- ---- ways and jobs, one more of each
+-- ---- distances and jobs, one more of each
 
-pub ways_more : (trap : TrapValue) (count : ℕ) (ways : List DistancesValue) (distances : DistancesValue) → AreWays trap count ways → AreDistances trap distances → distances.target ≡ count
-    → AreWays trap (count + 1) (ways ++ distances ∷ [])
-ways_more trap count ways distances so are target = record {
-  len = length_push ways distances ∙ ap (λ (n : ℕ). n + 1) so.len;
-  each = λ zone it there. elim (slice_get_pushed ways distances zone it there) [
+pub zone_distances_more : (trap : TrapValue) (count : ℕ) (zone_distances : List DistancesValue) (distances : DistancesValue) → AreZoneDistances trap count zone_distances → AreDistances trap distances → distances.target ≡ count
+    → AreZoneDistances trap (count + 1) (zone_distances ++ distances ∷ [])
+zone_distances_more trap count zone_distances distances so are target = record {
+  len = length_push zone_distances distances ∙ ap (λ (n : ℕ). n + 1) so.len;
+  each = λ zone it there. elim (slice_get_pushed zone_distances distances zone it there) [
     | inl old ↦ so.each zone it old
     | inr new ↦ subst (λ (d : DistancesValue). AreDistances trap d × (d.target ≡ zone)) (sym new.1) (are, target ∙ sym so.len ∙ sym new.0)
   ];
@@ -143,16 +143,16 @@ homes_step placement homes more zone list there is so =
 
 -- ---- what the map says of a zone or an operation
 
-pub way_at : (map : MapValue) (ways : List DistancesValue) (to : ℕ) (it : DistancesValue) → IsMap map → ways ≡ map.ways → to < length map.setting.trap.zones → it ≡ get_or ways to it
-    → slice_get map.ways to ≡ Some it
-way_at map ways to it is same within read =
+pub distances_to : (map : MapValue) (zone_distances : List DistancesValue) (to : ℕ) (it : DistancesValue) → IsMap map → zone_distances ≡ map.zone_distances → to < length map.setting.trap.zones → it ≡ get_or zone_distances to it
+    → slice_get map.zone_distances to ≡ Some it
+distances_to map zone_distances to it is same within read =
     subst (λ (list : List DistancesValue). slice_get list to ≡ Some it) same
-    (slice_get_read ways (length map.setting.trap.zones) to it (sym is.ways.len ∙ sym (ap (λ (list : List DistancesValue). length list) same)) within read)
+    (slice_get_read zone_distances (length map.setting.trap.zones) to it (sym is.zone_distances.len ∙ sym (ap (λ (list : List DistancesValue). length list) same)) within read)
 
-pub first_channel : (map : MapValue) (distances : DistancesValue) (from to number : ℕ) → IsMap map → slice_get map.ways to ≡ Some distances → next_at distances from ≡ Some number
+pub first_channel : (map : MapValue) (distances : DistancesValue) (from to number : ℕ) → IsMap map → slice_get map.zone_distances to ≡ Some distances → next_at distances from ≡ Some number
     → number < length (channels_of map.setting.trap)
 first_channel map distances from to number is at next =
-    let nearer = (is.ways.each to distances at).0.nearer from number next in
+    let nearer = (is.zone_distances.each to distances at).0.nearer from number next in
     slice_get_within (channels_of map.setting.trap) number nearer.leads.channel nearer.leads.there
 
 pub performed_within : (circuit : CircuitValue) (op : ℕ) → is_performed circuit op ≡ true → op < length circuit.ops
@@ -173,7 +173,7 @@ job_some map op it is performed at = let found = job_there map op it is performe
 pub job_in_homes : (map : MapValue) (op : ℕ) (job : Job) (count : ℕ) → IsMap map → slice_get map.jobs op ≡ Some (Some job) → count ≡ length (reading_order map.setting.placement) → IsWithin count job
 job_in_homes map op job count is at same = subst (λ (n : ℕ). IsWithin n job) (sym same) (job_within map op job is at)
 
--- ---- where the ions of an operation stand
+-- ---- where the ions of an operation are
 
 pub able_within : (trap : TrapValue) (zone : ℕ) (need : Need) → is_able trap zone need ≡ true → zone < length trap.zones
 able_within trap zone need able = elim (slice_get_cases trap.zones zone).1 [
@@ -189,16 +189,16 @@ able_somewhere map op job is performed at none =
     none able.0 (able_within map.setting.trap able.0 job.need here) here
 
 -- an ion that is in a place has its home there
-pub stands_home : (trap : TrapValue) (config : List (List Ion)) (homes : List PlaceId) (ion place : ℕ) → AreHomes trap config homes → ion < length homes → 1 ≤ count_of ion (list_at config place)
+pub present_home : (trap : TrapValue) (config : List (List Ion)) (homes : List PlaceId) (ion place : ℕ) → AreHomes trap config homes → ion < length homes → 1 ≤ count_of ion (list_at config place)
     → place ≡ home_of homes ion
-stands_home trap config homes ion place are within some = elim (cases_eq place (home_of homes ion)) [
+present_home trap config homes ion place are within some = elim (cases_eq place (home_of homes ion)) [
   | inl same ↦ same
-  | inr other ↦ absurd (omega (arith, some, (are.stands ion within).once place, one_apart place (home_of homes ion) other))
+  | inr other ↦ absurd (omega (arith, some, (are.present ion within).once place, one_apart place (home_of homes ion) other))
 ]
 
-pub home_stands : (trap : TrapValue) (config : List (List Ion)) (homes : List PlaceId) (ion : ℕ) → AreHomes trap config homes → ion < length homes → 1 ≤ count_of ion (list_at config (home_of homes ion))
-home_stands trap config homes ion are within =
-    omega (arith, (are.stands ion within).once (home_of homes ion), one_same (home_of homes ion) (home_of homes ion) refl)
+pub home_present : (trap : TrapValue) (config : List (List Ion)) (homes : List PlaceId) (ion : ℕ) → AreHomes trap config homes → ion < length homes → 1 ≤ count_of ion (list_at config (home_of homes ion))
+home_present trap config homes ion are within =
+    omega (arith, (are.present ion within).once (home_of homes ion), one_same (home_of homes ion) (home_of homes ion) refl)
 
 no_both : (a b c d : ℕ) → c ≢ d → one_if_both a b c d ≡ 0
 no_both a b c d ne = ap (λ (t : Bool). cond {A = ℕ} t 1 0) (and_right (a == b) (c == d) (ne_eqb c d ne))
@@ -206,7 +206,7 @@ no_both a b c d ne = ap (λ (t : Bool). cond {A = ℕ} t 1 0) (and_right (a == b
 both_same : (a c : ℕ) → one_if_both a a c c ≡ 1
 both_same a c = ap (λ (t : Bool). cond {A = ℕ} t 1 0) (and_from (a == a) (c == c) (eq-eqb a a refl) (eq-eqb c c refl))
 
--- an ion that stands where another goes stays there
+-- an ion that is where another goes stays there
 pub stays_there : (before after : List (List Ion)) (ion other from to : ℕ) → IsMoved before after ion from to → 1 ≤ count_of other (list_at before to) → 1 ≤ count_of other (list_at after to)
 stays_there before after ion other from to moved some = elim (cases_eq to from) [
   | inl same ↦ (let e : one_if_both other ion to from ≡ one_if_both other ion to to = ap (λ (p : ℕ). one_if_both other ion to p) (sym same) in omega (arith, some, e, moved.ions other to))
@@ -248,20 +248,20 @@ pub record IsHome (map : MapValue) (homes : List PlaceId) (zone : ℕ) (job : Jo
 second_home : (trap : TrapValue) (config : List (List Ion)) (homes : List PlaceId) (zone : ℕ) (second : Option Ion) → AreHomes trap config homes → IfSome second (λ (ion : Ion). ion.0 < length homes)
     → IfSome second (λ (ion : Ion). 1 ≤ count_of ion.0 (list_at config zone)) → IfSome second (λ (ion : Ion). zone ≡ home_of homes ion.0)
 second_home trap config homes zone None are within some = tt
-second_home trap config homes zone (Some ion) are within some = stands_home trap config homes ion.0 zone are within some
+second_home trap config homes zone (Some ion) are within some = present_home trap config homes ion.0 zone are within some
 
-second_stands : (trap : TrapValue) (config : List (List Ion)) (homes : List PlaceId) (zone : ℕ) (second : Option Ion) → AreHomes trap config homes → IfSome second (λ (ion : Ion). ion.0 < length homes)
+second_present : (trap : TrapValue) (config : List (List Ion)) (homes : List PlaceId) (zone : ℕ) (second : Option Ion) → AreHomes trap config homes → IfSome second (λ (ion : Ion). ion.0 < length homes)
     → IfSome second (λ (ion : Ion). zone ≡ home_of homes ion.0) → IfSome second (λ (ion : Ion). 1 ≤ count_of ion.0 (list_at config zone))
-second_stands trap config homes zone None are within same = tt
-second_stands trap config homes zone (Some ion) are within same =
-    subst (λ (place : ℕ). 1 ≤ count_of ion.0 (list_at config place)) (sym same) (home_stands trap config homes ion.0 are within)
+second_present trap config homes zone None are within same = tt
+second_present trap config homes zone (Some ion) are within same =
+    subst (λ (place : ℕ). 1 ≤ count_of ion.0 (list_at config place)) (sym same) (home_present trap config homes ion.0 are within)
 
 pub home_of_together : (map : MapValue) (config : List (List Ion)) (homes : List PlaceId) (zone op : ℕ) (job : Job) → IsMap map → slice_get map.jobs op ≡ Some (Some job)
     → AreHomes map.setting.trap config homes → IsWithin (length homes) job → IsTogether map.setting config zone op → IsHome map homes zone job
 home_of_together map config homes zone op job is at are within together =
     let both = both_of (list_at config zone) job.first job.second (job_by_among map op (list_at config zone) job is at together.ions) in
     record {
-      first = stands_home map.setting.trap config homes job.first.0 zone are within.0 both.0;
+      first = present_home map.setting.trap config homes job.first.0 zone are within.0 both.0;
       second = second_home map.setting.trap config homes zone job.second are within.1 both.1;
       able = sym (able_by_job map op zone job is at) ∙ together.able;
     }
@@ -270,8 +270,8 @@ pub together_at_home : (map : MapValue) (config : List (List Ion)) (homes : List
     → AreHomes map.setting.trap config homes → IsWithin (length homes) job → IsHome map homes zone job → IsTogether map.setting config zone op
 together_at_home map config homes zone op job is at are within home =
     together_in map config zone op job is at home.able
-    (subst (λ (place : ℕ). 1 ≤ count_of job.first.0 (list_at config place)) (sym home.first) (home_stands map.setting.trap config homes job.first.0 are within.0))
-    (second_stands map.setting.trap config homes zone job.second are within.1 home.second)
+    (subst (λ (place : ℕ). 1 ≤ count_of job.first.0 (list_at config place)) (sym home.first) (home_present map.setting.trap config homes job.first.0 are within.0))
+    (second_present map.setting.trap config homes zone job.second are within.1 home.second)
 
 -- ---- the next operation
 

@@ -20,7 +20,7 @@ abbrev pub one_if_both : ℕ → ℕ → ℕ → ℕ → ℕ
 one_if_both a b c d = if a == b && c == d then 1 else 0
 
 -- the ion is in that zone, once, and nowhere else
-pub record StandsIn (trap : TrapValue) (config : List (List Ion)) (ion zone : ℕ) : Type 0 where
+pub record IsInZone (trap : TrapValue) (config : List (List Ion)) (ion zone : ℕ) : Type 0 where
   pub there : zone < length trap.zones
   pub once : (place : ℕ) → count_of ion (list_at config place) ≡ one_if place zone
 
@@ -30,7 +30,7 @@ home_of homes ion = option_map_or (λ (home : PlaceId). home.0) (slice_get homes
 
 -- for each ion the zone in which it is, and there are no other ions
 pub record AreHomes (trap : TrapValue) (config : List (List Ion)) (homes : List PlaceId) : Type 0 where
-  pub stands : (ion : ℕ) → ion < length homes → StandsIn trap config ion (home_of homes ion)
+  pub present : (ion : ℕ) → ion < length homes → IsInZone trap config ion (home_of homes ion)
   pub known : (ion place : ℕ) → 1 ≤ count_of ion (list_at config place) → ion < length homes
 
 -- one ion went from the one place to the other, and every other ion is in the place where it was
@@ -38,7 +38,8 @@ pub record IsMoved (before after : List (List Ion)) (ion from to : ℕ) : Type 0
   pub places : length after ≡ length before
   pub ions : (other place : ℕ) → count_of other (list_at after place) + one_if_both other ion place from
       ≡ count_of other (list_at before place) + one_if_both other ion place to
-  pub lengths : (place : ℕ) → length (list_at after place) + one_if place from ≡ length (list_at before place) + one_if place to
+  pub lengths : (place : ℕ)
+      → length (list_at after place) + one_if place from ≡ length (list_at before place) + one_if place to
 
 -- the place has so many free places
 abbrev pub HasFree : TrapValue → List (List Ion) → ℕ → ℕ → Type 0
@@ -46,7 +47,8 @@ HasFree trap config count place = length (list_at config place) + count ≤ limi
 
 -- every zone but that one has so many
 abbrev pub OthersHaveFree : TrapValue → List (List Ion) → ℕ → ℕ → Type 0
-OthersHaveFree trap config count zone = (other : ℕ) → other < length trap.zones → other ≢ zone → HasFree trap config count other
+OthersHaveFree trap config count zone =
+    (other : ℕ) → other < length trap.zones → other ≢ zone → HasFree trap config count other
 
 -- every zone has so many
 abbrev pub AllHaveFree : TrapValue → List (List Ion) → ℕ → Type 0

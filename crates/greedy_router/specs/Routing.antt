@@ -34,19 +34,20 @@ IsWithin count job = (job.first.0 < count) × IfSome job.second (λ (ion : Ion).
 -- the jobs of these operations
 pub record AreJobs (placement : List (List Qubit)) (ops : List Op) (jobs : List (Option Job)) : Type 0 where
   pub len : length jobs ≡ length ops
-  pub each : (number : ℕ) (op : Op) (job : Option Job) → slice_get ops number ≡ Some op → slice_get jobs number ≡ Some job
+  pub each : (number : ℕ) (op : Op) (job : Option Job) → slice_get ops number ≡ Some op
+      → slice_get jobs number ≡ Some job
       → GivesJob placement op job
 
 -- for each of so many zones the distances of all places to it
-pub record AreWays (trap : TrapValue) (count : ℕ) (ways : List DistancesValue) : Type 0 where
-  pub len : length ways ≡ count
-  pub each : (zone : ℕ) (distances : DistancesValue) → slice_get ways zone ≡ Some distances
+pub record AreZoneDistances (trap : TrapValue) (count : ℕ) (zone_distances : List DistancesValue) : Type 0 where
+  pub len : length zone_distances ≡ count
+  pub each : (zone : ℕ) (distances : DistancesValue) → slice_get zone_distances zone ≡ Some distances
       → AreDistances trap distances × (distances.target ≡ zone)
 
 -- what never changes while a circuit is routed
 pub record MapValue : Type 0 where
   pub setting : SettingValue
-  pub ways : List DistancesValue
+  pub zone_distances : List DistancesValue
   pub jobs : List (Option Job)
 
 pub record IsMap (map : MapValue) : Type 0 where
@@ -54,5 +55,5 @@ pub record IsMap (map : MapValue) : Type 0 where
   pub circuit : IsCircuit map.setting.circuit
   pub placed : IsPlacement map.setting.trap map.setting.circuit map.setting.placement
   pub room : HasRoom map.setting
-  pub ways : AreWays map.setting.trap (length map.setting.trap.zones) map.ways
+  pub zone_distances : AreZoneDistances map.setting.trap (length map.setting.trap.zones) map.zone_distances
   pub jobs : AreJobs map.setting.placement map.setting.circuit.ops map.jobs

@@ -15,7 +15,8 @@ use Rattle.step_rules.specs.Play.{after_steps, one_at_a_time}
 
 -- where the ions are after these actions
 abbrev pub config_after : SettingValue → List Action → List (List Ion)
-config_after setting actions = after_steps setting.trap (start_of setting.trap setting.placement) (one_at_a_time actions)
+config_after setting actions =
+    after_steps setting.trap (start_of setting.trap setting.placement) (one_at_a_time actions)
 
 -- the operations that these actions perform, in order
 abbrev pub ops_of : List Action → List OpId

@@ -73,7 +73,7 @@ pub record Brings (setting : SettingValue) (old new : Played) (zone : ℕ) (ion 
 
 -- one ion can go from place to place
 pub record CanPass (trap : TrapValue) (config : List (List Ion)) (ion from to : ℕ) : Type 0 where
-  pub stands : 1 ≤ count_of ion (list_at config from)
+  pub present : 1 ≤ count_of ion (list_at config from)
   pub alone : length trap.zones ≤ from → length (list_at config from) ≡ 1
   pub empty : length trap.zones ≤ to → length (list_at config to) ≡ 0
   pub free : to < length trap.zones → HasFree trap config 1 to

@@ -60,7 +60,8 @@ fn tight(setting: &Setting) -> Option<PlaceId>
 
 // The least zone to which no walk leads from zone 0.
 fn apart(alloc: Global, setting: &Setting) -> Result<Option<PlaceId>, NoMemory>
-    ensures { IfOk result (λ zone. MatchOption zone (AreReached setting.now) (λ zone. IsLeast (IsApart setting.now) zone.0)) }
+    ensures { IfOk result (λ zone. MatchOption zone (AreReached setting.now)
+        (λ zone. IsLeast (IsApart setting.now) zone.0)) }
 {
     let places = setting.trap.places();
     prove!(places > 0);

@@ -21,7 +21,8 @@ fn settle(homes: &mut Vec<PlaceId>, zone: PlaceId, count: usize) -> Result<(), N
 /// For each ion the zone in which it is at the start.
 pub(crate) fn homes(alloc: Global, setting: &Setting) -> Result<Vec<PlaceId>, NoMemory>
     requires { IsPlacement setting.now.trap setting.now.circuit setting.now.placement }
-    ensures homes { IfOk result (λ homes. AreHomes setting.now.trap (start_of setting.now.trap setting.now.placement) homes.items) }
+    ensures homes { IfOk result
+        (λ homes. AreHomes setting.now.trap (start_of setting.now.trap setting.now.placement) homes.items) }
     ensures len { IfOk result (λ homes. length homes.items ≡ length (reading_order setting.now.placement)) }
 {
     let mut homes = Vec::new(alloc);

@@ -7,5 +7,6 @@ ghost use Rattle.greedy_router.specs.Room.{JudgesRoom};
 
 /// A setting has one answer about room: room excludes every fault, and there is one first fault.
 pub fn one_answer_about_room()
-    ensures { (setting : SettingValue) (a b : Result (Unit {0}) RoomFault) → JudgesRoom setting a → JudgesRoom setting b → a ≡ b }
+    ensures { (setting : SettingValue) (a b : Result (Unit {0}) RoomFault) → JudgesRoom setting a
+        → JudgesRoom setting b → a ≡ b }
 {}

@@ -5,7 +5,7 @@ ghost use Rattle.trap_model.specs.Build.{IsTrap};
 ghost use Rattle.step_rules.specs.Placement.{IsPlacement};
 ghost use Rattle.circuit_core.specs.Order.{is_performed};
 ghost use Rattle.greedy_router.specs.Room.{HasRoom};
-ghost use Rattle.greedy_router.specs.Routing.{IsMap, AreWays};
+ghost use Rattle.greedy_router.specs.Routing.{IsMap, AreZoneDistances};
 
 use crate::job::{Job, jobs};
 use qc_base::{End, NoMemory, OpId, PlaceId};
@@ -19,7 +19,7 @@ use trap_model::Trap;
 #[derive(Drop)]
 pub(crate) struct Map<'a> {
     pub(crate) setting: &'a Setting<'a>,
-    pub(crate) ways: Vec<Distances>,
+    pub(crate) zone_distances: Vec<Distances>,
     pub(crate) jobs: Vec<Option<Job>>,
 }
 
@@ -32,19 +32,24 @@ impl<'a> Model for Map<'a> {
 
     ghost coded = { Prim.hlevel (codes, angle.the_row.coded) };
 
-    ghost view = { λ m. record { setting = m.setting.now; ways = m.ways.items; jobs = m.jobs.items } };
+    ghost view = { λ m. record {
+      setting = m.setting.now;
+      zone_distances = m.zone_distances.items;
+      jobs = m.jobs.items;
+    } };
 }
 
 // The distances to each zone, by one search for each.
-fn ways(alloc: Global, trap: &Trap) -> Result<Vec<Distances>, NoMemory>
-    ensures ways { IfOk result (λ ways. AreWays trap.now (length trap.now.zones) ways.items) }
+fn zone_distances(alloc: Global, trap: &Trap) -> Result<Vec<Distances>, NoMemory>
+    ensures zone_distances { IfOk result
+        (λ list. AreZoneDistances trap.now (length trap.now.zones) list.items) }
     ensures trap { IsTrap trap.now }
 {
-    let mut ways = Vec::new(alloc);
+    let mut zone_distances = Vec::new(alloc);
     for zone in 0..trap.zones().len() as u32 {
-        ways.push(Distances::to(alloc, trap, PlaceId(zone))?)?;
+        zone_distances.push(Distances::to(alloc, trap, PlaceId(zone))?)?;
     }
-    Ok(ways)
+    Ok(zone_distances)
 }
 
 impl<'a> Map<'a> {
@@ -54,11 +59,11 @@ impl<'a> Map<'a> {
         ensures map { IfOk result (λ map. IsMap map) }
         ensures setting { IfOk result (λ map. map.setting ≡ setting.now) }
     {
-        let ways = ways(alloc, setting.trap)?;
+        let zone_distances = zone_distances(alloc, setting.trap)?;
         let jobs = jobs(alloc, setting.circuit, setting.placement)?;
         Ok(Map {
             setting,
-            ways,
+            zone_distances,
             jobs,
         })
     }
@@ -84,7 +89,7 @@ impl<'a> Map<'a> {
         requires from { from.0 < length self.now.setting.trap.zones }
         requires to { to.0 < length self.now.setting.trap.zones }
     {
-        self.ways[to.0 as usize].distance(from).unwrap()
+        self.zone_distances[to.0 as usize].distance(from).unwrap()
     }
 
     /// The end by which a shortest walk leaves a zone for another.
@@ -94,7 +99,7 @@ impl<'a> Map<'a> {
         requires to { to.0 < length self.now.setting.trap.zones }
         requires apart { from ≢ to }
     {
-        let number = self.ways[to.0 as usize].next(from).unwrap();
+        let number = self.zone_distances[to.0 as usize].next(from).unwrap();
         self.trap().channels()[number as usize].from_end
     }
 

@@ -69,11 +69,13 @@ impl Traffic {
         requires travels { MayTravel map.now.setting self.old.played.actions.items }
         requires ion { ion.0 < length self.old.homes.items }
         requires to { to.0 < length map.now.setting.trap.zones }
-        requires free { OthersHaveFree map.now.setting.trap self.old.played.config.lists 1 (home_of self.old.homes.items ion.0) }
-        ensures { OnOk result (Travels map.now.setting self.old self.new ion.0 (home_of self.old.homes.items ion.0) to.0) }
+        requires free { OthersHaveFree map.now.setting.trap self.old.played.config.lists 1
+            (home_of self.old.homes.items ion.0) }
+        ensures { OnOk result (Travels map.now.setting self.old self.new ion.0
+            (home_of self.old.homes.items ion.0) to.0) }
     {
         let from = self.home(ion);
-        let distances = &map.ways[to.0 as usize];
+        let distances = &map.zone_distances[to.0 as usize];
         carry(&mut self.played, map.setting, distances, ion, from)?;
         self.homes[ion.0 as usize] = to;
         Ok(())
@@ -85,8 +87,10 @@ impl Traffic {
         requires traffic { IsTraffic map.now.setting self.now }
         requires from { from.0 < length map.now.setting.trap.zones }
         ensures { MatchOption result
-            ((zone : ℕ) → zone < length map.now.setting.trap.zones → ¬ HasFree map.now.setting.trap self.now.played.config.lists 3 zone)
-            (λ zone. (zone.0 < length map.now.setting.trap.zones) × HasFree map.now.setting.trap self.now.played.config.lists 3 zone.0) }
+            ((zone : ℕ) → zone < length map.now.setting.trap.zones
+            → ¬ HasFree map.now.setting.trap self.now.played.config.lists 3 zone)
+            (λ zone. (zone.0 < length map.now.setting.trap.zones)
+            × HasFree map.now.setting.trap self.now.played.config.lists 3 zone.0) }
     {
         let mut best = None;
         for zone in 0..map.zones() {
@@ -108,7 +112,8 @@ impl Traffic {
         requires traffic { IsTraffic map.now.setting self.old }
         requires travels { MayTravel map.now.setting self.old.played.actions.items }
         requires zone { zone.0 < length map.now.setting.trap.zones }
-        requires tight { limit_of map.now.setting.trap zone.0 < length (list_at self.old.played.config.lists zone.0) + 2 }
+        requires tight { limit_of map.now.setting.trap zone.0
+            < length (list_at self.old.played.config.lists zone.0) + 2 }
         requires others { OthersHaveFree map.now.setting.trap self.old.played.config.lists 2 zone.0 }
         ensures { OnOk result (Sends map.now.setting self.old self.new zone.0) }
     {
@@ -169,8 +174,10 @@ impl Traffic {
         requires traffic { IsTraffic map.now.setting self.now }
         requires job { IsWithin (length self.now.homes.items) job.now }
         ensures { MatchOption result
-            ((zone : ℕ) → zone < length map.now.setting.trap.zones → ¬ is_able map.now.setting.trap zone job.now.need ≡ true)
-            (λ zone. (zone.0 < length map.now.setting.trap.zones) × (is_able map.now.setting.trap zone.0 job.now.need ≡ true)) }
+            ((zone : ℕ) → zone < length map.now.setting.trap.zones
+            → ¬ is_able map.now.setting.trap zone job.now.need ≡ true)
+            (λ zone. (zone.0 < length map.now.setting.trap.zones)
+            × (is_able map.now.setting.trap zone.0 job.now.need ≡ true)) }
     {
         let mut best = None;
         for zone in 0..map.zones() {

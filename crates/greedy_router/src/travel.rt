@@ -8,7 +8,7 @@ ghost use Rattle.ion_chain.specs.Transfer.{list_at};
 ghost use Rattle.route_find.specs.Distances.{AreDistances, distance_at};
 ghost use Rattle.step_rules.specs.ActionChannel.{channel_for};
 ghost use Rattle.greedy_router.specs.Serial.{IsSingle};
-ghost use Rattle.greedy_router.specs.Places.{count_of, StandsIn, IsCalm, OthersHaveFree};
+ghost use Rattle.greedy_router.specs.Places.{count_of, IsInZone, IsCalm, OthersHaveFree};
 ghost use Rattle.greedy_router.specs.Traffic.{IsPlayed, MayTravel, Brings, Carries, CanPass, carries};
 
 use crate::played::Played;
@@ -42,7 +42,7 @@ fn bring_to_a(
     requires played { IsPlayed setting.now played.old }
     requires travels { MayTravel setting.now played.old.actions.items }
     requires zone { zone.0 < length setting.now.trap.zones }
-    requires stands { 1 ≤ count_of ion.0 (list_at played.old.config.lists zone.0) }
+    requires present { 1 ≤ count_of ion.0 (list_at played.old.config.lists zone.0) }
     ensures { OnOk result (Brings setting.now played.old played.new zone.0 ion End.A) }
 {
     let mut index = index_of(played.list(zone), ion);
@@ -64,7 +64,7 @@ fn bring_to_b(
     requires played { IsPlayed setting.now played.old }
     requires travels { MayTravel setting.now played.old.actions.items }
     requires zone { zone.0 < length setting.now.trap.zones }
-    requires stands { 1 ≤ count_of ion.0 (list_at played.old.config.lists zone.0) }
+    requires present { 1 ≤ count_of ion.0 (list_at played.old.config.lists zone.0) }
     ensures { OnOk result (Brings setting.now played.old played.new zone.0 ion End.B) }
 {
     let last = played.list(zone).len() as u32 - 1;
@@ -88,7 +88,7 @@ fn bring(
     requires played { IsPlayed setting.now played.old }
     requires travels { MayTravel setting.now played.old.actions.items }
     requires zone { zone.0 < length setting.now.trap.zones }
-    requires stands { 1 ≤ count_of ion.0 (list_at played.old.config.lists zone.0) }
+    requires present { 1 ≤ count_of ion.0 (list_at played.old.config.lists zone.0) }
     ensures { OnOk result (Brings setting.now played.old played.new zone.0 ion end) }
 {
     match end {
@@ -157,7 +157,7 @@ pub(crate) fn carry(
     requires played { IsPlayed setting.now played.old }
     requires travels { MayTravel setting.now played.old.actions.items }
     requires calm { IsCalm setting.now.trap played.old.config.lists }
-    requires stands { StandsIn setting.now.trap played.old.config.lists ion.0 from.0 }
+    requires present { IsInZone setting.now.trap played.old.config.lists ion.0 from.0 }
     requires distances { AreDistances setting.now.trap distances.now }
     requires reached { IsSome (distance_at distances.now from.0) }
     requires free { OthersHaveFree setting.now.trap played.old.config.lists 1 from.0 }

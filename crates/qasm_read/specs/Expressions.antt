@@ -40,12 +40,15 @@ run (p ∷ rest) (wanted frames) = elim (start_of p.token) [
   | start.Whole e ↦ run rest (there frames (leaf e))
   | start.Nothing ↦ None
 ]
-run (p ∷ rest) (opening f frames) = cond (is_sign LeftParenthesis p.token) (run rest (wanted (Function f ∷ frames))) None
+run (p ∷ rest) (opening f frames) =
+    cond (is_sign LeftParenthesis p.token) (run rest (wanted (Function f ∷ frames))) None
 run (p ∷ rest) (there frames tree) = elim (operator_of p.token) [
-  | Some op ↦ run rest (wanted (Left op (reduced (strength_of op) frames tree).1 ∷ (reduced (strength_of op) frames tree).0))
+  | Some op ↦ run rest
+      (wanted (Left op (reduced (strength_of op) frames tree).1 ∷ (reduced (strength_of op) frames tree).0))
   | None ↦ elim (reduced 1 frames tree).0 [
     | [] ↦ Some ((reduced 1 frames tree).1, p ∷ rest)
-    | f ∷ outer ↦ cond (is_sign RightParenthesis p.token) (run rest (there outer (put_in f (reduced 1 frames tree).1))) None
+    | f ∷ outer ↦ cond (is_sign RightParenthesis p.token)
+        (run rest (there outer (put_in f (reduced 1 frames tree).1))) None
   ]
 ]
 
@@ -54,14 +57,16 @@ next_operator st = elim st.placed [ [] ↦ None | p ∷ rest ↦ operator_of p.t
 
 -- What a function returned and left continues as the tokens do in that mode, unless memory ran out.
 abbrev pub Continues : Result (Option Tree) Stop → State → Mode → State → List Frame → Type 0
-Continues (Ok tree) before mode now frames = (run before.placed mode ≡ run now.placed (there frames tree)) × (now.large ≡ before.large) × (length now.placed < length before.placed)
+Continues (Ok tree) before mode now frames =
+    (run before.placed mode ≡ run now.placed (there frames tree)) × (now.large ≡ before.large)
+    × (length now.placed < length before.placed)
 Continues (Err NoMemory) before mode now frames = Unit {0}
 Continues (Err OtherForm) before mode now frames = run before.placed mode ≡ None
 
 abbrev pub tree_at : Reader (Option Tree)
 tree_at st = run st.placed (wanted []) >>= λ x. Some (x.0, record { placed = x.1; large = st.large })
 
--- pi stands for a large expression, whose place is kept: there is no program then
+-- a large expression is read as pi, and its place is kept: there is no program then
 abbrev pub kept : Option ℕ → Option Tree × State → Exp × State
 kept place x = elim x.0 [
   | Some tree ↦ (tree.exp, x.1)

@@ -44,4 +44,5 @@ taken strength (f ∷ frames) = cond (nat_le strength (hold_of f)) (Some f, fram
 -- the frames that hold as strongly as that are put around the expression
 unfoldable pub reduced : ℕ → List Frame → Option Tree → List Frame × Option Tree
 reduced strength [] tree = ([], tree)
-reduced strength (f ∷ frames) tree = cond (nat_le strength (hold_of f)) (reduced strength frames (put_in f tree)) (f ∷ frames, tree)
+reduced strength (f ∷ frames) tree =
+    cond (nat_le strength (hold_of f)) (reduced strength frames (put_in f tree)) (f ∷ frames, tree)

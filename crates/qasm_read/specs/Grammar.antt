@@ -75,10 +75,14 @@ pub data Spells : Level → Exp → List Token → Type 0 where
   whole : (n : ℕ) → Spells atom (roll-Exp (Exp-F.Int n)) (token.Integer n ∷ [])
   pi : Spells atom (roll-Exp Exp-F.Pi) (token.Keyword word.Pi ∷ [])
   named : (n : List ℕ) → Spells atom (roll-Exp (Exp-F.Id n)) (token.Identifier n ∷ [])
-  applied : (f : FunName) (e : Exp) (tokens : List Token) → Spells expression e tokens → Spells atom (roll-Exp (Exp-F.Fun f e)) (word_of f ∷ enclosed tokens)
+  applied : (f : FunName) (e : Exp) (tokens : List Token) → Spells expression e tokens
+      → Spells atom (roll-Exp (Exp-F.Fun f e)) (word_of f ∷ enclosed tokens)
   in_parentheses : (e : Exp) (tokens : List Token) → Spells expression e tokens → Spells atom e (enclosed tokens)
-  negated : (e : Exp) (tokens : List Token) → Spells factor e tokens → Spells factor (roll-Exp (Exp-F.Neg e)) (token.Sign Minus ∷ tokens)
-  joined : (op : BinOp) (a b : Exp) (left right : List Token) → Spells (left_of op) a left → Spells (right_of op) b right → Spells (whole_of op) (roll-Exp (Exp-F.Bin op a b)) (left ++ sign_of op ∷ right)
+  negated : (e : Exp) (tokens : List Token) → Spells factor e tokens
+      → Spells factor (roll-Exp (Exp-F.Neg e)) (token.Sign Minus ∷ tokens)
+  joined : (op : BinOp) (a b : Exp) (left right : List Token) → Spells (left_of op) a left
+      → Spells (right_of op) b right
+      → Spells (whole_of op) (roll-Exp (Exp-F.Bin op a b)) (left ++ sign_of op ∷ right)
   an_atom : (e : Exp) (tokens : List Token) → Spells atom e tokens → Spells power e tokens
   a_power : (e : Exp) (tokens : List Token) → Spells power e tokens → Spells factor e tokens
   a_factor : (e : Exp) (tokens : List Token) → Spells factor e tokens → Spells term e tokens
@@ -102,7 +106,8 @@ abbrev pub is_small : Exp → Bool
 is_small e = nat_le (nodes_of e) 1000
 
 abbrev pub an_expression : Exp → Form
-an_expression e large placed = Spells expression e (tokens_of placed) × (large ≡ cond (is_small e) None (place_of placed))
+an_expression e large placed =
+    Spells expression e (tokens_of placed) × (large ≡ cond (is_small e) None (place_of placed))
 
 -- ---- statements, over the form of an expression
 
@@ -129,14 +134,20 @@ abbrev pub qop : (Exp → Form) → Qop → Form
 qop E (operation.U params arg) = word word.U ▸ some_expressions E params ▸ argument arg ▸ sign Semicolon
 qop E (operation.Cx control target) = word word.Cx ▸ argument control ▸ sign Comma ▸ argument target ▸ sign Semicolon
 qop E (operation.Call gate params args) = name gate ▸ parameters E params ▸ commas argument args ▸ sign Semicolon
-qop E (operation.Measure source target) = word word.Measure ▸ argument source ▸ sign Arrow ▸ argument target ▸ sign Semicolon
+qop E (operation.Measure source target) =
+    word word.Measure ▸ argument source ▸ sign Arrow ▸ argument target ▸ sign Semicolon
 qop E (operation.Reset arg) = word word.Reset ▸ argument arg ▸ sign Semicolon
 
 abbrev pub a_statement : (Exp → Form) → Statement → Form
 a_statement E (statement.Include t) = word word.Include ▸ text t ▸ sign Semicolon
-a_statement E (statement.Register quantum n size) = word (cond quantum word.Qreg word.Creg) ▸ name n ▸ index size ▸ sign Semicolon
-a_statement E (statement.Gate n params qubits body) = word word.Gate ▸ name n ▸ formals params qubits ▸ sign LeftBrace ▸ each (body_item E) body ▸ sign RightBrace
+a_statement E (statement.Register quantum n size) =
+    word (cond quantum word.Qreg word.Creg) ▸ name n ▸ index size ▸ sign Semicolon
+a_statement E (statement.Gate n params qubits body) =
+    word word.Gate ▸ name n ▸ formals params qubits ▸ sign LeftBrace ▸ each (body_item E) body
+    ▸ sign RightBrace
 a_statement E (statement.Opaque n params qubits) = word word.Opaque ▸ name n ▸ formals params qubits ▸ sign Semicolon
 a_statement E (statement.Apply op) = qop E op
 a_statement E (statement.Barrier args) = word word.Barrier ▸ commas argument args ▸ sign Semicolon
-a_statement E (statement.If creg value op) = word word.If ▸ sign LeftParenthesis ▸ name creg ▸ sign Equals ▸ integer value ▸ sign RightParenthesis ▸ qop E op
+a_statement E (statement.If creg value op) =
+    word word.If ▸ sign LeftParenthesis ▸ name creg ▸ sign Equals ▸ integer value ▸ sign RightParenthesis
+    ▸ qop E op

@@ -26,7 +26,9 @@ pub record Begins (form : Form) (large : Option ℕ) (placed left : List PlacedT
 
 -- no statement begins here
 abbrev pub NoStatementBegins : List PlacedToken → Type 0
-NoStatementBegins placed = (s : Statement) (large : Option ℕ) (left : List PlacedToken) → Begins (a_statement an_expression s) large placed left → ⊥
+NoStatementBegins placed =
+    (s : Statement) (large : Option ℕ) (left : List PlacedToken)
+    → Begins (a_statement an_expression s) large placed left → ⊥
 
 -- these statements begin the tokens, and no statement begins what is left after them
 pub record LongestRun (statements : List Placed) (large : Option ℕ) (placed left : List PlacedToken) : Type 0 where
@@ -41,7 +43,9 @@ verdict statements None (p ∷ left) = Err (NoStatement p.at)
 
 -- the answer to the tokens after the header
 abbrev pub AnswersAfter : List PlacedToken → Result (List Placed) QasmFault → Type 0
-AnswersAfter placed answer = (statements : List Placed) × (large : Option ℕ) × (left : List PlacedToken) × LongestRun statements large placed left × (answer ≡ verdict statements large left)
+AnswersAfter placed answer =
+    (statements : List Placed) × (large : Option ℕ) × (left : List PlacedToken)
+    × LongestRun statements large placed left × (answer ≡ verdict statements large left)
 
 -- the answer to the tokens
 abbrev pub Answers : List PlacedToken → Result (List Placed) QasmFault → Type 0

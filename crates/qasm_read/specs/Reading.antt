@@ -113,7 +113,8 @@ with_front front read = read >>= λ x. Some (front ++ x.0, x.1)
 -- while there is more, at most so often
 abbrev pub repeat : {X : Type 0} → (State → Bool) → Reader X → ℕ → Reader (List X)
 repeat more read zero st = cond (more st) None (Some ([], st))
-repeat more read (suc n) st = cond (more st) (read st >>= λ x. with_front (x.0 ∷ []) (repeat more read n x.1)) (Some ([], st))
+repeat more read (suc n) st =
+    cond (more st) (read st >>= λ x. with_front (x.0 ∷ []) (repeat more read n x.1)) (Some ([], st))
 
 -- while there is more: each takes a token at least
 unfoldable pub repeat_at : {X : Type 0} → (State → Bool) → Reader X → Reader (List X)
@@ -128,7 +129,9 @@ abbrev pub some_in_parentheses : {X : Type 0} → Reader X → Reader (List X)
 some_in_parentheses read = after_sign LeftParenthesis (closed RightParenthesis (commas_at read))
 
 abbrev pub within : {X : Type 0} → Reader X → Reader (List X)
-within read st = cond (comes RightParenthesis st) (made (λ u. []) (skip_at RightParenthesis) st) (closed RightParenthesis (commas_at read) st)
+within read st =
+    cond (comes RightParenthesis st) (made (λ u. []) (skip_at RightParenthesis) st)
+    (closed RightParenthesis (commas_at read) st)
 
 -- any number in parentheses, which may be absent where there are none
 abbrev pub parameters_at : {X : Type 0} → Reader X → Reader (List X)
@@ -140,7 +143,10 @@ abbrev pub index_at : Reader ℕ
 index_at = after_sign LeftBracket (closed RightBracket integer_at)
 
 abbrev pub argument_at : Reader Arg
-argument_at st = name_at st >>= λ x. cond (comes LeftBracket x.1) (index_at x.1 >>= λ y. Some (record { name = x.0; index = Some y.0 }, y.1)) (Some (record { name = x.0; index = None }, x.1))
+argument_at st =
+    name_at st >>= λ x. cond (comes LeftBracket x.1)
+    (index_at x.1 >>= λ y. Some (record { name = x.0; index = Some y.0 }, y.1))
+    (Some (record { name = x.0; index = None }, x.1))
 
 abbrev pub formals_at : Reader (List (List ℕ) × List (List ℕ))
 formals_at = pair (parameters_at name_at) (commas_at name_at)
@@ -157,7 +163,8 @@ abbrev pub body_barrier_at : Reader BodyItem
 body_barrier_at = made (λ args. item.Barrier args) (closed Semicolon (commas_at name_at))
 
 abbrev pub body_call_at : Reader Exp → List ℕ → Reader BodyItem
-body_call_at exp gate = made (λ p. item.Call gate p.0 p.1) (pair (parameters_at exp) (closed Semicolon (commas_at name_at)))
+body_call_at exp gate =
+    made (λ p. item.Call gate p.0 p.1) (pair (parameters_at exp) (closed Semicolon (commas_at name_at)))
 
 abbrev pub body_item_in : Reader Exp → Token → Reader BodyItem
 body_item_in exp (token.Keyword word.U) = body_universal_at exp
@@ -177,7 +184,8 @@ abbrev pub universal_at : Reader Exp → Reader Qop
 universal_at exp = made (λ p. operation.U p.0 p.1) (pair (some_in_parentheses exp) (closed Semicolon argument_at))
 
 abbrev pub controlled_not_at : Reader Qop
-controlled_not_at = made (λ p. operation.Cx p.0 p.1) (pair argument_at (after_sign Comma (closed Semicolon argument_at)))
+controlled_not_at =
+    made (λ p. operation.Cx p.0 p.1) (pair argument_at (after_sign Comma (closed Semicolon argument_at)))
 
 abbrev pub measure_at : Reader Qop
 measure_at = made (λ p. operation.Measure p.0 p.1) (pair argument_at (after_sign Arrow (closed Semicolon argument_at)))
@@ -186,7 +194,9 @@ abbrev pub reset_at : Reader Qop
 reset_at = made (λ a. operation.Reset a) (closed Semicolon argument_at)
 
 abbrev pub call_at : Reader Exp → List ℕ → Reader Qop
-call_at exp gate = made (λ p. operation.Call gate p.0 p.1) (pair (parameters_at exp) (closed Semicolon (commas_at argument_at)))
+call_at exp gate =
+    made (λ p. operation.Call gate p.0 p.1)
+    (pair (parameters_at exp) (closed Semicolon (commas_at argument_at)))
 
 abbrev pub qop_in : Reader Exp → Token → Reader Qop
 qop_in exp (token.Keyword word.U) = universal_at exp
@@ -206,7 +216,9 @@ abbrev pub register_at : Bool → Reader Statement
 register_at quantum = made (λ p. statement.Register quantum p.0 p.1) (pair name_at (closed Semicolon index_at))
 
 abbrev pub gate_at : Reader Exp → Reader Statement
-gate_at exp = made (λ p. statement.Gate p.0 p.1.0.0 p.1.0.1 p.1.1) (pair name_at (pair formals_at (after_sign LeftBrace (closed RightBrace (body_at exp)))))
+gate_at exp =
+    made (λ p. statement.Gate p.0 p.1.0.0 p.1.0.1 p.1.1)
+    (pair name_at (pair formals_at (after_sign LeftBrace (closed RightBrace (body_at exp)))))
 
 abbrev pub opaque_at : Reader Statement
 opaque_at = made (λ p. statement.Opaque p.0 p.1.0 p.1.1) (pair name_at (closed Semicolon formals_at))
@@ -215,7 +227,10 @@ abbrev pub barrier_at : Reader Statement
 barrier_at = made (λ args. statement.Barrier args) (closed Semicolon (commas_at argument_at))
 
 abbrev pub condition_at : Reader Exp → Reader Statement
-condition_at exp = made (λ p. statement.If p.0 p.1.0 p.1.1) (after_sign LeftParenthesis (pair name_at (after_sign Equals (pair integer_at (after_sign RightParenthesis (qop_at exp))))))
+condition_at exp =
+    made (λ p. statement.If p.0 p.1.0 p.1.1)
+    (after_sign LeftParenthesis
+    (pair name_at (after_sign Equals (pair integer_at (after_sign RightParenthesis (qop_at exp))))))
 
 abbrev pub statement_in : Reader Exp → Token → Reader Statement
 statement_in exp (token.Keyword word.Include) = include_at

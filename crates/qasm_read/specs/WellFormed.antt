@@ -1,4 +1,5 @@
--- What holds of a statement that a text spells, beside its grammar: its names are identifiers, its reals are reals, and its expressions are small.
+-- What holds of a statement that a text spells, beside its grammar: its names are identifiers, its reals are
+-- reals, and its expressions are small.
 use Rattle.std.specs.Prelude.{ℕ, ◌<◌, ◌≤◌, List, [], ◌∷◌, ◌++◌, length, All, IsTrue}
 use Rattle.circuit_core.specs.Identifier.{is_identifier}
 use Rattle.circuit_core.specs.Reals.{IsShortReal}
@@ -79,7 +80,8 @@ IsOperation (operation.Reset arg) = IsArgument arg
 abbrev pub IsWellFormed : Statement → Type 0
 IsWellFormed (statement.Include text) = Unit {0}
 IsWellFormed (statement.Register quantum name size) = IsName name
-IsWellFormed (statement.Gate name params qubits body) = IsName name × All IsName params × AtLeastOne IsName qubits × All IsBodyItem body
+IsWellFormed (statement.Gate name params qubits body) =
+    IsName name × All IsName params × AtLeastOne IsName qubits × All IsBodyItem body
 IsWellFormed (statement.Opaque name params qubits) = IsName name × All IsName params × AtLeastOne IsName qubits
 IsWellFormed (statement.Apply op) = IsOperation op
 IsWellFormed (statement.Barrier args) = AtLeastOne IsArgument args

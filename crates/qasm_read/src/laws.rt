@@ -9,7 +9,8 @@ ghost use Rattle.qasm_read.specs.Grammar.{a_statement, an_expression};
 ghost use Rattle.qasm_read.specs.Read.{IsReading};
 ghost use Rattle.qasm_read.specs.Program.{Answers, Begins};
 
-/// No statement begins another, so tokens split into statements in one way. Where none of its expressions is large, it is one statement, too.
+/// No statement begins another, so tokens split into statements in one way. Where none of its expressions is
+/// large, it is one statement, too.
 pub fn one_statement_begins()
     ensures { (s t : Statement) (m n : Option ℕ) (placed a b : List PlacedToken)
         (p : Begins (a_statement an_expression s) m placed a) (q : Begins (a_statement an_expression t) n placed b) →
@@ -18,7 +19,8 @@ pub fn one_statement_begins()
 
 /// Tokens have one answer.
 pub fn one_answer()
-    ensures { (placed : List PlacedToken) (x y : Result (List Placed) QasmFault) → Answers placed x → Answers placed y → x ≡ y }
+    ensures { (placed : List PlacedToken) (x y : Result (List Placed) QasmFault) → Answers placed x
+        → Answers placed y → x ≡ y }
 {}
 
 /// A text has one reading.

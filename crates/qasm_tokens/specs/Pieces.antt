@@ -1,5 +1,6 @@
 -- What is at the front of a circuit file's text: white space, a comment or a token.
--- The language is OpenQASM 2.0 (arXiv:1707.03429, the appendix on its grammar), the forms of its tokens are this project's profile.
+-- The language is OpenQASM 2.0 (arXiv:1707.03429, the appendix on its grammar), the forms of its tokens are this
+-- project's profile.
 use Rattle.std.specs.Prelude.{ℕ, ◌+◌, ◌==◌, nat_eq, nat_lt, Bool, not, ◌&&◌, ◌||◌, List, [], ◌∷◌, length, drop, codes, Option, Some, None, if◌then◌else◌}
 use Rattle.std.specs.Char.{is_ascii_digit, is_ascii_alphabetic, is_ascii_alphanumeric}
 use Rattle.std.specs.List.{prefix_len, starts_with}

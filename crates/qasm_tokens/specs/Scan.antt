@@ -43,7 +43,8 @@ abbrev pub rest_from : List ℕ → ℕ → ℕ → Result (List PlacedToken) To
 rest_from text at depth = tokens_from at depth 0 (drop at text)
 
 -- a text reads so with this token first and the rest after it
-abbrev pub IsNext : Option PlacedLexeme → Result (List PlacedToken) TokenFault → Result (List PlacedToken) TokenFault → Type 0
+abbrev pub IsNext : Option PlacedLexeme → Result (List PlacedToken) TokenFault
+    → Result (List PlacedToken) TokenFault → Type 0
 IsNext None reads rest = reads ≡ Ok []
 IsNext (Some placed) reads rest = reads ≡ after_token placed.at (Some (token_seen placed.lexeme)) rest
 

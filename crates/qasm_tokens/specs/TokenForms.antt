@@ -64,7 +64,8 @@ HasForm (shapes.Sign sign) text = text ≡ sign_text sign
 pub record IsLongest (text : List ℕ) (piece : Piece) : Type 0 where
   pub within : piece.length ≤ length text
   pub form : HasForm piece.shape (take piece.length text)
-  pub longest : (front rest : List ℕ) (shape : Shape) → text ≡ front ++ rest → HasForm shape front → length front ≤ piece.length
+  pub longest : (front rest : List ℕ) (shape : Shape) → text ≡ front ++ rest → HasForm shape front
+      → length front ≤ piece.length
 
 -- no front of the text is of any form
 abbrev pub HasNoForm : List ℕ → Type 0

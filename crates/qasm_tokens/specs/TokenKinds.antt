@@ -16,7 +16,8 @@ pub record IsIdentifier (name : List ℕ) : Type 0 where
   pub other : keyword_of name ≡ None
   pub short : length name ≤ 64
 
--- an identifier, a number below 2^64, a real of at most 64 bytes, what is in a string of at most 64 bytes, or a keyword or sign
+-- an identifier, a number below 2^64, a real of at most 64 bytes, what is in a string of at most 64 bytes, or a
+-- keyword or sign
 abbrev pub IsToken : Token → Type 0
 IsToken (tokens.Identifier name) = IsIdentifier name
 IsToken (tokens.Integer value) = value < 2 ^ 64

@@ -9,7 +9,8 @@ use Rattle.qasm_tokens.specs.Tokens.{token_of, open_after}
 use Rattle.qasm_tokens.specs.Scan.{after_token}
 use Rattle.qasm_tokens.specs.TokenForms.{IsLongest, HasNoForm}
 
--- A text whose first byte has a place, where so many parentheses are open, reads as its tokens or as its leftmost fault:
+-- A text whose first byte has a place, where so many parentheses are open, reads as its tokens or as its leftmost
+-- fault:
 --   at_end     no byte is left
 --   no_form    no front of the text is of any form
 --   bad_token  the longest match is no token, as its word is unknown or long or its number large
@@ -18,9 +19,13 @@ use Rattle.qasm_tokens.specs.TokenForms.{IsLongest, HasNoForm}
 pub data ReadsAs : ℕ → ℕ → List ℕ → Result (List PlacedToken) TokenFault → Type 0 where
   at_end : {at depth : ℕ} → ReadsAs at depth [] (Ok [])
   no_form : {at depth : ℕ} {text : List ℕ} → 0 < length text → HasNoForm text → ReadsAs at depth text (Err (Lex at))
-  bad_token : {at depth : ℕ} {text : List ℕ} {fault : TokenFault} (piece : Piece) → IsLongest text piece → token_of at piece.shape (take piece.length text) ≡ Err fault → ReadsAs at depth text (Err fault)
-  too_deep : {at depth : ℕ} {text : List ℕ} {fault : TokenFault} (piece : Piece) (token : Option Token) → IsLongest text piece → token_of at piece.shape (take piece.length text) ≡ Ok token
+  bad_token : {at depth : ℕ} {text : List ℕ} {fault : TokenFault} (piece : Piece) → IsLongest text piece
+      → token_of at piece.shape (take piece.length text) ≡ Err fault → ReadsAs at depth text (Err fault)
+  too_deep : {at depth : ℕ} {text : List ℕ} {fault : TokenFault} (piece : Piece) (token : Option Token)
+      → IsLongest text piece → token_of at piece.shape (take piece.length text) ≡ Ok token
       → open_after at depth piece.shape ≡ Err fault → ReadsAs at depth text (Err fault)
-  goes_on : {at depth : ℕ} {text : List ℕ} {answer : Result (List PlacedToken) TokenFault} (piece : Piece) (token : Option Token) (deeper : ℕ) (rest : Result (List PlacedToken) TokenFault) → IsLongest text piece
+  goes_on : {at depth : ℕ} {text : List ℕ} {answer : Result (List PlacedToken) TokenFault} (piece : Piece)
+      (token : Option Token) (deeper : ℕ) (rest : Result (List PlacedToken) TokenFault) → IsLongest text piece
       → token_of at piece.shape (take piece.length text) ≡ Ok token → open_after at depth piece.shape ≡ Ok deeper
-      → ReadsAs (at + piece.length) deeper (drop piece.length text) rest → answer ≡ after_token at token rest → ReadsAs at depth text answer
+      → ReadsAs (at + piece.length) deeper (drop piece.length text) rest → answer ≡ after_token at token rest
+      → ReadsAs at depth text answer

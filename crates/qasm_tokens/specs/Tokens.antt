@@ -69,7 +69,9 @@ word_token at None word = if is_upper word then Err (Lex at) else short_token at
 unfoldable pub token_of : ℕ → Shape → List ℕ → Result (Option Token) TokenFault
 token_of at shapes.Gap text = Ok None
 token_of at shapes.Word text = word_token at (keyword_of text) text
-token_of at shapes.Integer text = if nat_lt (digits_value 10 text) (2 ^ 64) then Ok (Some (tokens.Integer (digits_value 10 text))) else Err (BigNumber at)
+token_of at shapes.Integer text =
+    if nat_lt (digits_value 10 text) (2 ^ 64) then Ok (Some (tokens.Integer (digits_value 10 text)))
+    else Err (BigNumber at)
 token_of at shapes.Real text = short_token at (tokens.Real text) text
 token_of at shapes.Text text = short_token at (tokens.Text (take (length text - 2) (drop 1 text))) text
 token_of at (shapes.Sign sign) text = Ok (Some (tokens.Sign sign))

@@ -149,7 +149,8 @@ fn word_lexeme(at: u64, word: &[u8]) -> Result<Option<Lexeme>, TokenFault>
 /// The number that digits write, if it is below 2^64.
 fn integer_of(digits: &[u8]) -> Option<u64>
     requires { IsNumeral 10 digits.now }
-    ensures { result ≡ (if nat_lt (digits_value 10 digits.now) (2 ^ 64) then Some (digits_value 10 digits.now) else None) }
+    ensures { result ≡ (if nat_lt (digits_value 10 digits.now) (2 ^ 64) then Some (digits_value 10 digits.now)
+        else None) }
 {
     match str::from_utf8(digits) {
         Ok(text) => text.parse::<u64>().ok(),

@@ -71,7 +71,8 @@ pub(crate) struct Scanner<'a> {
     bytes: &'a [u8],
     at: usize,
     depth: u32,
-    /// No real begins from the place on up to there: digits that no point and no exponent follow aren't gone over twice.
+    /// No real begins from the place on up to there: digits that no point and no exponent follow aren't gone over
+    /// twice.
     plain: usize,
     ghost within: { at ≤ length bytes.now },
     ghost no_real: { HasNoReal bytes.now at plain },
@@ -111,7 +112,8 @@ impl<'a> Scanner<'a> {
     /// The next token where it lies.
     pub(crate) fn next_lexeme(&mut self) -> Result<Option<PlacedLexeme<'a>>, TokenFault>
         ensures next { MatchResult result
-            (λ next. IsNext next (rest_from self.old.bytes.now self.old.at self.old.depth) (rest_from self.new.bytes.now self.new.at self.new.depth))
+            (λ next. IsNext next (rest_from self.old.bytes.now self.old.at self.old.depth)
+            (rest_from self.new.bytes.now self.new.at self.new.depth))
             (λ fault. rest_from self.old.bytes.now self.old.at self.old.depth ≡ Err fault) }
         ensures same { self.new.bytes.now ≡ self.old.bytes.now }
         ensures further { IfOk result (λ next. IfSome next (λ placed. self.old.at < self.new.at)) }

@@ -1,6 +1,7 @@
 -- The headline from what a run claims.
-use Rattle.std.proofs.Common.{◌≡◌, List, ℕ, Option, Some, None, refl, subst}
+use Rattle.std.proofs.Common.{◌≡◌, ◌≢◌, List, ℕ, Option, Some, None, refl, ap, subst, inl, inr}
 use Rattle.std.specs.Prelude.{slice_get}
+use Rattle.std.specs.Option.{option_and_then}
 use Rattle.qc_base.specs.declared.ids.OpId.{OpId}
 use Rattle.qc_base.specs.declared.ids.PlaceId.{PlaceId}
 use Rattle.circuit_core.specs.declared.op.Op.{Op}
@@ -9,27 +10,48 @@ use Rattle.trap_model.specs.Trap.{TrapValue}
 use Rattle.qc_base.specs.declared.ids.Qubit.{Qubit}
 use Rattle.qc_base.specs.Sink.{Took}
 use Rattle.step_rules.specs.declared.action.Action.TheVariants as actions
-use Rattle.step_rules.specs.Setting.{setting_of}
+use Rattle.step_rules.specs.Setting.{SettingValue, setting_of}
 use Rattle.schedule_text.specs.Text.{action_line}
 use Rattle.placement.specs.declared.rule.PlaceRule.{PlaceRule}
-use Rattle.request_words.specs.Request.{compile, request_of}
+use Rattle.request_words.specs.Request.{Asked, Search, compile, request_of, put_of}
 use Rattle.run_answers.specs.declared.answer.Answer.TheVariants as answers
-use Rattle.qccd.specs.Work.{Work, Ends, IsTightTextOf}
-use Rattle.qccd.specs.Found.{Found}
-use Rattle.qccd.specs.Run.{Devices, Writes}
+use Rattle.run_stages.specs.declared.ending.Ending.{Ending}
+use Rattle.run_stages.specs.Exact.{IsLeastWritten}
+use Rattle.run_stages.specs.Work.{Work, fewest, Ends, EndsSearch, IsTightTextOf}
+use Rattle.run_stages.specs.Stages.{Is}
+use Rattle.run_stages.specs.Found.{Found, put_name}
+use Rattle.run_stages.specs.Prepare.{Routed, within_search}
+use Rattle.qccd.specs.Run.{Devices, Writes, Holds}
 use Rattle.qccd.specs.Headline.{line_with_ions, Compiled}
-use Rattle.qccd.proofs.Went.{asked_for, planned_by}
+use Rattle.qccd.proofs.Went.{asked_for, placed_by, routed_work, sought_work}
 
 named : (trap : TrapValue) (circuit : CircuitValue) (placement : List (List Qubit)) (zone : PlaceId) (number : OpId) (op : Op) → slice_get circuit.ops number.0 ≡ Some op
     → action_line (setting_of trap circuit placement) (actions.Op zone number) ≡ line_with_ions trap circuit placement zone number op
 named trap circuit placement zone number op e = rw e refl
 
-pub compiled : (found : Found) (words : List (List ℕ)) (circuit trap : List ℕ) (rule : PlaceRule) (before now : Devices) → request_of words ≡ Some (compile circuit trap rule None)
-    → Writes found words answers.Ok before now → Compiled found rule before.out.taken now.out.taken
-compiled found words circuit trap rule before now request writes =
-    let plan = planned_by found circuit trap rule writes.done.work (asked_for found words (compile circuit trap rule None) writes.done.work request writes.done.is) in
-    let ends : IsTightTextOf (setting_of plan.trap plan.circuit plan.placement) writes.ending.text =
-    (subst (λ (w : Work). Ends w answers.Ok writes.ending) plan.work_is writes.done.ends).schedule in
+ok_is_found : (most : ℕ) → answers.Ok ≢ answers.NoneWithin most
+ok_is_found most e = cc
+
+ok_is_within : (spent : ℕ) → answers.Ok ≢ answers.Budget spent
+ok_is_within spent e = cc
+
+-- a search that ends in Ok
+least_written : (setting : SettingValue) (max budget : ℕ) (ending : Ending) → EndsSearch setting max budget answers.Ok ending → IsLeastWritten setting max ending
+least_written setting max budget ending (inl least) = least.1
+least_written setting max budget ending (inr (inl none)) = absurd (ok_is_found max none.0)
+least_written setting max budget ending (inr (inr spent)) = absurd (ok_is_within budget spent.0)
+
+put_under : (words : List (List ℕ)) (circuit trap : List ℕ) (rule : PlaceRule) (exact : Search) → request_of words ≡ Some (compile circuit trap rule (Some exact)) → put_name words ≡ Some exact.cert
+put_under words circuit trap rule exact request = ap (λ (asked : Option Asked). option_and_then put_of asked) request
+
+pub compiled : (found : Found) (words : List (List ℕ)) (circuit trap : List ℕ) (rule : PlaceRule) (exact : Option Search) (before now : Devices) → request_of words ≡ Some (compile circuit trap rule exact)
+    → Writes found words answers.Ok before now → Compiled found rule exact before now
+compiled found words circuit trap rule None before now request writes =
+    let work = writes.done.work in
+    let plan = placed_by found rule Routed work (asked_for found words (compile circuit trap rule None) work request writes.done.is) in
+    let setting = setting_of plan.trap plan.circuit plan.placement in
+    let ends : IsTightTextOf setting writes.ending.text =
+    (subst (λ (w : Work). Ends w answers.Ok writes.ending) (routed_work setting work plan.goes_on) writes.done.ends).1.schedule in
     record {
       circuit = plan.circuit;
       circuit_is = plan.circuit_is;
@@ -41,5 +63,30 @@ compiled found words circuit trap rule before now request writes =
       schedule = ends.is.schedule;
       plays = ends.is.plays;
       named = named plan.trap plan.circuit plan.placement;
+      fewest = tt;
       taken = subst (λ (text : List ℕ). Took before.out.taken now.out.taken text) ends.is.text_is writes.whole.taken;
+    }
+compiled found words circuit trap rule (Some exact) before now request writes =
+    let work = writes.done.work in
+    let plan = placed_by found rule (λ setting. Is (within_search setting exact)) work (asked_for found words (compile circuit trap rule (Some exact)) work request writes.done.is) in
+    let setting = setting_of plan.trap plan.circuit plan.placement in
+    let ends : EndsSearch setting exact.max exact.budget answers.Ok writes.ending =
+    subst (λ (w : Work). Ends w answers.Ok writes.ending) (sought_work setting exact work plan.goes_on).1 writes.done.ends in
+    let least = least_written setting exact.max exact.budget writes.ending ends in
+    let holds : Holds before.shelf now.shelf (Some exact.cert) (Some least.put) =
+    subst (λ (put : Option (List ℕ)). Holds before.shelf now.shelf (Some exact.cert) put) least.put_is
+    (subst (λ (name : Option (List ℕ)). Holds before.shelf now.shelf name writes.ending.put) (put_under words circuit trap rule exact request) writes.whole.holds) in
+    record {
+      circuit = plan.circuit;
+      circuit_is = plan.circuit_is;
+      trap = plan.trap;
+      labels = plan.labels;
+      trap_is = plan.trap_is;
+      placement = plan.placement;
+      placement_is = plan.placement_is;
+      schedule = least.schedule;
+      plays = least.least.plays;
+      named = named plan.trap plan.circuit plan.placement;
+      fewest = record { least = least.least; within = least.within; cert = least.put; certifies = least.certifies; fresh = least.fresh; holds = holds };
+      taken = subst (λ (text : List ℕ). Took before.out.taken now.out.taken text) least.text_is writes.whole.taken;
     }

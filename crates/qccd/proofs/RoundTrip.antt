@@ -1,4 +1,4 @@
--- A check accepts what a compilation wrote.
+-- A check and a report accept what a compilation wrote.
 use Rattle.std.proofs.Common.{◌≡◌, ℕ, ◌≤◌, ◌^◌, List, length, Option, Some, None, Result, Ok, Err, Bool, refl, sym, ap, subst, ◌∙◌}
 use Rattle.std.specs.Prelude.{if◌then◌else◌}
 use Rattle.std.specs.Option.{ok_or}
@@ -26,26 +26,26 @@ use Rattle.step_rules.specs.Placement.{IsPlacement}
 use Rattle.step_rules.specs.Setting.{SettingValue, setting_of}
 use Rattle.step_rules.specs.Play.{Plays}
 use Rattle.schedule_text.specs.Text.{schedule_text}
-use Rattle.schedule_text.specs.Reading.{Spells}
 use Rattle.schedule_text.proofs.Codes.{one_pair}
 use Rattle.placement.specs.declared.rule.PlaceRule.{PlaceRule}
 use Rattle.placement.specs.Placing.{FitsZones}
 use Rattle.placement.proofs.Placed.{placed as rule_gives_placement}
 use Rattle.verify_core.specs.declared.judge.Checked.{Checked}
+use Rattle.verify_core.specs.Judging.{Judges}
 use Rattle.request_words.specs.declared.file.File.TheVariants as files
 use Rattle.request_words.specs.Request.{Asked, compile, check, report, request_of}
 use Rattle.run_answers.specs.declared.answer.Answer.{Answer}
 use Rattle.run_answers.specs.declared.answer.Answer.TheVariants as answers
-use Rattle.qccd.specs.declared.inputs.Inputs.{Inputs}
-use Rattle.qccd.specs.Work.{Work, make, judged, reported, IsTightTextOf}
-use Rattle.qccd.specs.Stages.{Is, Then}
-use Rattle.qccd.specs.Found.{Found}
-use Rattle.qccd.specs.Prepare.{bytes_of, or_refuse, CircuitOf, TrapOf, inputs_of, InputsOf, JudgedOf, JudgedFor, Comes, Prepares}
+use Rattle.run_stages.specs.declared.inputs.Inputs.{Inputs}
+use Rattle.run_stages.specs.Work.{Work, make, judged, reported, IsTightTextOf}
+use Rattle.run_stages.specs.Stages.{Is, Then}
+use Rattle.run_stages.specs.Found.{Found}
+use Rattle.run_stages.specs.Prepare.{bytes_of, or_refuse, CircuitOf, TrapOf, inputs_of, InputsOf, Routed, JudgedIn, JudgedOf, JudgedFor, Comes, Prepares}
 use Rattle.qccd.specs.RoundTrip.{IsAccepted}
-use Rattle.qccd.proofs.Refusals.{labels_fit}
+use Rattle.run_stages.proofs.Refusals.{labels_fit}
 use Rattle.qccd.proofs.Known.{spelled}
-use Rattle.qccd.proofs.Stages.{then_ok}
-use Rattle.qccd.proofs.Went.{went, asked_for, planned_by}
+use Rattle.run_stages.proofs.Stages.{then_ok}
+use Rattle.qccd.proofs.Went.{PlacedBy, went, asked_for, placed_by, routed_work}
 
 -- ---- the circuit and the trap are right
 
@@ -62,7 +62,7 @@ made_as : (made : Result CircuitValue ExpandFault) (circuit : CircuitValue) → 
 made_as (Ok other) circuit e = cc
 made_as (Err fault) circuit e = absurd cc
 
-circuit_right : (content : Option (List ℕ)) (circuit : CircuitValue) → CircuitOf content (Ok circuit) → IsCircuit circuit
+pub circuit_right : (content : Option (List ℕ)) (circuit : CircuitValue) → CircuitOf content (Ok circuit) → IsCircuit circuit
 circuit_right content circuit is =
     let bytes = went _ _ circuit is in
     let program = went _ _ circuit bytes.goes_on in
@@ -74,7 +74,7 @@ file_is : (read : Result FileValue TrapText) (file : FileValue) → Ok file ≡ 
 file_is (Ok other) file e = cc
 file_is (Err fault) file e = absurd cc
 
-trap_right : (content : Option (List ℕ)) (file : FileValue) → TrapOf content (Ok file) → IsTrap file.0 × FitsZones file.0 file.1
+pub trap_right : (content : Option (List ℕ)) (file : FileValue) → TrapOf content (Ok file) → IsTrap file.0 × FitsZones file.0 file.1
 trap_right content file is =
     let bytes = went _ _ file is in
     let read = file_is (trap_of bytes.x) file bytes.goes_on in
@@ -82,38 +82,65 @@ trap_right content file is =
 
 -- ---- the text is read and judged
 
+-- the circuit and the trap are found, and the text is read as that of steps that play from a placement
+pub record IsReadAgain (found : Found) (setting : SettingValue) (steps : List (List Action)) (text : List ℕ) : Type 0 where
+  pub inputs : Inputs
+  pub are : InputsOf found.circuit found.trap (Ok inputs)
+  pub placement : List (List Qubit)
+  pub setting_is : setting ≡ setting_of inputs.trap inputs.circuit placement
+  pub read : Ok text ≡ bytes_of files.Schedule found.schedule
+  pub judges : Judges inputs.trap inputs.circuit text (Ok (record { placement = placement; schedule = steps }))
+
+-- what was placed is found again, and the text stands as the schedule
+pub read_again : (before later : Found) (rule : PlaceRule) (next : SettingValue → Result Work Answer → Type 0) (work : Work) (plan : PlacedBy before rule next work) (setting : SettingValue) (steps : List (List Action)) (text : List ℕ)
+    → setting ≡ setting_of plan.trap plan.circuit plan.placement → Plays setting steps → text ≡ schedule_text setting steps
+    → later.circuit ≡ before.circuit → later.trap ≡ before.trap → later.schedule ≡ Some text → length text ≤ 2 ^ 30 → IsReadAgain later setting steps text
+read_again before later rule next work plan setting steps text setting_is plays text_is same_circuit same_trap there few =
+    let inputs : Inputs = inputs_of plan.circuit (plan.trap, plan.labels) in
+    let of_circuit = subst (λ (content : Option (List ℕ)). CircuitOf content (Ok plan.circuit)) (sym same_circuit) plan.circuit_is in
+    let of_trap = subst (λ (content : Option (List ℕ)). TrapOf content (Ok (plan.trap, plan.labels))) (sym same_trap) plan.trap_is in
+    let right = trap_right before.trap (plan.trap, plan.labels) plan.trap_is in
+    let well = circuit_right before.circuit plan.circuit plan.circuit_is in
+    let placed : IsPlacement plan.trap plan.circuit plan.placement =
+    rule_gives_placement plan.trap plan.circuit rule plan.labels plan.placement well right.1 plan.placement_is in
+    let plays_there = subst (λ (s : SettingValue). Plays s steps) setting_is plays in
+    let spells = spelled plan.trap plan.circuit plan.placement steps text right.0 placed plays_there (text_is ∙ ap (λ (s : SettingValue). schedule_text s steps) setting_is) few in
+    record {
+      inputs = inputs;
+      are = then_ok (CircuitOf later.circuit) (λ circuit. Then (TrapOf later.trap) (λ file. Is (Ok (inputs_of circuit file)))) plan.circuit (Ok inputs) of_circuit
+          (then_ok (TrapOf later.trap) (λ file. Is (Ok (inputs_of plan.circuit file))) (plan.trap, plan.labels) (Ok inputs) of_trap refl);
+      placement = plan.placement;
+      setting_is = setting_is;
+      read = sym (ap (bytes_of files.Schedule) there ∙ ap (λ (b : Bool). if b then Ok text else Err (answers.Long files.Schedule)) (le-leb (length text) (2 ^ 30) few));
+      judges = record {
+        text = record { spells = spells; only = λ other more also. one_pair plan.trap plan.circuit other plan.placement more steps text right.0 well also spells };
+        plays = plays_there;
+      };
+    }
+
+-- what is asked for comes to that work
+pub comes_by : (found : Found) (words : List (List ℕ)) (asked : Asked) (work : Work) → request_of words ≡ Some asked → Comes found asked (Ok work) → Prepares found words (Ok work)
+comes_by found words asked work request comes =
+    subst (λ (o : Option Asked). Then (Is (ok_or o answers.Usage)) (Comes found) (Ok work)) (sym request) (then_ok (Is (Ok asked)) (Comes found) asked (Ok work) refl comes)
+
+-- ---- a check and a report
+
 -- the work that a judged schedule comes to
 abbrev WorkOf : Type 0
 WorkOf = SettingValue → List (List Action) → Work
 
-judged_text : (work : WorkOf) (inputs : Inputs) (placement : List (List Qubit)) (steps : List (List Action)) (text : List ℕ) (content : Option (List ℕ)) → IsTrap inputs.trap → IsCircuit inputs.circuit
-    → Spells inputs.trap inputs.circuit placement steps text → Plays (setting_of inputs.trap inputs.circuit placement) steps → content ≡ Some text → length text ≤ 2 ^ 30
-    → JudgedOf work content inputs (Ok (work (setting_of inputs.trap inputs.circuit placement) steps))
-judged_text work inputs placement steps text content t c spells plays there few =
-    let checked : Checked = record { placement = placement; schedule = steps } in
-    record {
-      given = Ok text;
-      is = sym (ap (bytes_of files.Schedule) there ∙ ap (λ (b : Bool). if b then Ok text else Err (answers.Long files.Schedule)) (le-leb (length text) (2 ^ 30) few));
-      goes_on = record {
-        judgement = Ok checked;
-        is = record {
-          text = record { spells = spells; only = λ other more also. one_pair inputs.trap inputs.circuit other placement more steps text t c also spells };
-          plays = plays;
-        };
-        outcome_is = refl;
-      };
-    }
+judged_for : (work : WorkOf) (found : Found) (setting : SettingValue) (steps : List (List Action)) (text : List ℕ) → IsReadAgain found setting steps text → JudgedFor work found (Ok (work setting steps))
+judged_for work found setting steps text again =
+    let checked : Checked = record { placement = again.placement; schedule = steps } in
+    let done = work (setting_of again.inputs.trap again.inputs.circuit again.placement) steps in
+    subst (λ (s : SettingValue). JudgedFor work found (Ok (work s steps))) (sym again.setting_is)
+    (then_ok (InputsOf found.circuit found.trap) (JudgedOf work found.schedule) again.inputs (Ok done) again.are
+    (then_ok (Is (bytes_of files.Schedule found.schedule)) (JudgedIn work again.inputs) text (Ok done) again.read
+    (record { judgement = Ok checked; is = again.judges; outcome_is = refl })))
 
--- the stages of a request that judges a schedule, where circuit and trap are found as before
+-- the stages of a request that judges a schedule
 abbrev IsCaseOf : WorkOf → Asked → Type 0
 IsCaseOf work asked = (found : Found) (outcome : Result Work Answer) → JudgedFor work found outcome → Comes found asked outcome
-
-checked_by : (work : WorkOf) (asked : Asked) (found : Found) (words : List (List ℕ)) (inputs : Inputs) (done : Work) → IsCaseOf work asked → request_of words ≡ Some asked
-    → InputsOf found.circuit found.trap (Ok inputs) → JudgedOf work found.schedule inputs (Ok done) → Prepares found words (Ok done)
-checked_by work asked found words inputs done comes request is judges =
-    subst (λ (o : Option Asked). Then (Is (ok_or o answers.Usage)) (Comes found) (Ok done)) (sym request)
-    (then_ok (Is (Ok asked)) (Comes found) asked (Ok done) refl
-    (comes found (Ok done) (then_ok (InputsOf found.circuit found.trap) (JudgedOf work found.schedule) inputs (Ok done) is judges)))
 
 same_setting : (a b : SettingValue) → make a ≡ make b → a ≡ b
 same_setting a b e = cc
@@ -125,25 +152,14 @@ judged_again : (work : WorkOf) (asked : Asked) (before later : Found) (words che
     → later.circuit ≡ before.circuit → later.trap ≡ before.trap → later.schedule ≡ Some text → length text ≤ 2 ^ 30
     → IsAccepted work later check_words setting text
 judged_again work asked before later words check_words circuit trap text rule setting comes request check_request prepares written same_circuit same_trap there few =
-    let plan = planned_by before circuit trap rule (make setting) (asked_for before words (compile circuit trap rule None) (make setting) request prepares) in
-    let setting_is : setting ≡ setting_of plan.trap plan.circuit plan.placement = same_setting setting (setting_of plan.trap plan.circuit plan.placement) plan.work_is in
-    let inputs : Inputs = inputs_of plan.circuit (plan.trap, plan.labels) in
-    let of_circuit = subst (λ (content : Option (List ℕ)). CircuitOf content (Ok plan.circuit)) (sym same_circuit) plan.circuit_is in
-    let of_trap = subst (λ (content : Option (List ℕ)). TrapOf content (Ok (plan.trap, plan.labels))) (sym same_trap) plan.trap_is in
-    let right = trap_right before.trap (plan.trap, plan.labels) plan.trap_is in
-    let well = circuit_right before.circuit plan.circuit plan.circuit_is in
-    let placed : IsPlacement plan.trap plan.circuit plan.placement =
-    rule_gives_placement plan.trap plan.circuit rule plan.labels plan.placement well right.1 plan.placement_is in
-    let plays = subst (λ (s : SettingValue). Plays s written.is.schedule) setting_is written.is.plays in
-    let text_is = written.is.text_is ∙ ap (λ (s : SettingValue). schedule_text s written.is.schedule) setting_is in
-    let spells = spelled plan.trap plan.circuit plan.placement written.is.schedule text right.0 placed plays text_is few in
-    let judges = judged_text work inputs plan.placement written.is.schedule text later.schedule right.0 well spells plays there few in
-    let is = then_ok (CircuitOf later.circuit) (λ circuit. Then (TrapOf later.trap) (λ file. Is (Ok (inputs_of circuit file)))) plan.circuit (Ok inputs) of_circuit
-    (then_ok (TrapOf later.trap) (λ file. Is (Ok (inputs_of plan.circuit file))) (plan.trap, plan.labels) (Ok inputs) of_trap refl) in
+    let plan = placed_by before rule Routed (make setting) (asked_for before words (compile circuit trap rule None) (make setting) request prepares) in
+    let setting_is : setting ≡ setting_of plan.trap plan.circuit plan.placement =
+    same_setting setting (setting_of plan.trap plan.circuit plan.placement) (routed_work (setting_of plan.trap plan.circuit plan.placement) (make setting) plan.goes_on) in
+    let steps = written.is.schedule in
+    let again = read_again before later rule Routed (make setting) plan setting steps text setting_is written.is.plays written.is.text_is same_circuit same_trap there few in
     record {
-      steps = written.is.schedule;
-      judges = subst (λ (s : SettingValue). Prepares later check_words (Ok (work s written.is.schedule))) (sym setting_is)
-          (checked_by work asked later check_words inputs (work (setting_of plan.trap plan.circuit plan.placement) written.is.schedule) comes check_request is judges);
+      steps = steps;
+      judges = comes_by later check_words asked (work setting steps) check_request (comes later (Ok (work setting steps)) (judged_for work later setting steps text again));
       text_is = written.is.text_is;
     }
 

@@ -1,5 +1,5 @@
 -- The headline: what a compilation that answers Ok wrote.
-use Rattle.std.specs.Prelude.{◌≡◌, ℕ, List, ◌++◌, codes, Option, Some, Ok, slice_get}
+use Rattle.std.specs.Prelude.{◌≡◌, ◌≤◌, ℕ, List, ◌++◌, length, codes, Option, None, Some, Ok, slice_get}
 use Rattle.qc_base.specs.declared.ids.OpId.{OpId}
 use Rattle.qc_base.specs.declared.ids.PlaceId.{PlaceId}
 use Rattle.qc_base.specs.declared.ids.Qubit.{Qubit}
@@ -11,20 +11,42 @@ use Rattle.placement.specs.declared.rule.PlaceRule.{PlaceRule}
 use Rattle.placement.specs.Placing.{Table, place_by}
 use Rattle.step_rules.specs.declared.action.Action.{Action}
 use Rattle.step_rules.specs.declared.action.Action.TheVariants as actions
-use Rattle.step_rules.specs.Setting.{setting_of}
-use Rattle.step_rules.specs.Play.{Plays}
+use Rattle.step_rules.specs.Setting.{SettingValue, setting_of}
+use Rattle.step_rules.specs.Play.{Plays, IsLeast}
 use Rattle.schedule_text.specs.Text.{op_line, action_line, schedule_text}
-use Rattle.qccd.specs.Found.{Found}
-use Rattle.qccd.specs.Prepare.{CircuitOf, TrapOf}
+use Rattle.step_vars.specs.Certifies.{Certifies}
+use Rattle.request_words.specs.Request.{Search}
+use Rattle.run_stages.specs.Found.{Found}
+use Rattle.run_stages.specs.Prepare.{CircuitOf, TrapOf}
+use Rattle.run_stages.specs.Exact.{RefutesFewer}
+use Rattle.qccd.specs.Run.{Devices, Holds}
 
 -- the line of an operation: its zone, its number, the ions on which the placement puts its qubits, and its text
 abbrev pub line_with_ions : TrapValue → CircuitValue → List (List Qubit) → PlaceId → OpId → Op → List ℕ
 line_with_ions trap circuit placement zone number op =
     codes "op " ++ place_text trap zone.0 ++ codes " " ++ op_line circuit placement number.0 op
 
--- The circuit and the trap are those of the files, the placement is that of the rule, the schedule obeys every rule of
--- the trap in each step and performs each operation of the circuit once and in its order, and its text was taken.
-pub record Compiled (found : Found) (rule : PlaceRule) (before now : Option (List ℕ)) : Type 0 where
+-- No schedule that plays has fewer steps, and it has at most as many as were asked for. What was put under the
+-- name of the certificate certifies that, by fresh lines.
+pub record IsCertified (setting : SettingValue) (schedule : List (List Action)) (exact : Search)
+    (before now : Devices) : Type 0 where
+  pub least : IsLeast setting schedule
+  pub within : length schedule ≤ exact.max
+  pub cert : List ℕ
+  pub certifies : Certifies setting cert (length schedule)
+  pub fresh : RefutesFewer setting (length schedule) cert
+  pub holds : Holds before.shelf now.shelf (Some exact.cert) (Some cert)
+
+-- the same in exact mode; else nothing is claimed of other schedules
+abbrev pub IsCertifiedIfExact : Option Search → SettingValue → List (List Action) → Devices → Devices → Type 0
+IsCertifiedIfExact None setting schedule before now = Unit {0}
+IsCertifiedIfExact (Some exact) setting schedule before now = IsCertified setting schedule exact before now
+
+-- The circuit and the trap are those of the files, the placement is that of the rule, the schedule obeys every
+-- rule of the trap in each step and performs each operation of the circuit once and in its order, and its text was
+-- taken. In exact mode no such schedule from that placement has fewer steps.
+pub record Compiled (found : Found) (rule : PlaceRule) (exact : Option Search) (before now : Devices)
+    : Type 0 where
   pub circuit : CircuitValue
   pub circuit_is : CircuitOf found.circuit (Ok circuit)
   pub trap : TrapValue
@@ -35,5 +57,7 @@ pub record Compiled (found : Found) (rule : PlaceRule) (before now : Option (Lis
   pub schedule : List (List Action)
   pub plays : Plays (setting_of trap circuit placement) schedule
   pub named : (zone : PlaceId) (number : OpId) (op : Op) → slice_get circuit.ops number.0 ≡ Some op
-      → action_line (setting_of trap circuit placement) (actions.Op zone number) ≡ line_with_ions trap circuit placement zone number op
-  pub taken : Took before now (schedule_text (setting_of trap circuit placement) schedule)
+      → action_line (setting_of trap circuit placement) (actions.Op zone number)
+      ≡ line_with_ions trap circuit placement zone number op
+  pub fewest : IsCertifiedIfExact exact (setting_of trap circuit placement) schedule before now
+  pub taken : Took before.out.taken now.out.taken (schedule_text (setting_of trap circuit placement) schedule)

@@ -2,42 +2,81 @@
 
 ghost use Rattle.std.specs.Prelude.{◌≡◌, ℕ, ◌≤◌, ◌^◌, List, length, Option, Some, None, Result, Ok};
 ghost use Rattle.placement.specs.declared.rule.PlaceRule.{PlaceRule};
+ghost use Rattle.step_rules.specs.declared.action.Action.{Action};
 ghost use Rattle.step_rules.specs.Setting.{SettingValue};
-ghost use Rattle.request_words.specs.Request.{request_of, compile, check, report};
+ghost use Rattle.step_rules.specs.Play.{IsLeast};
+ghost use Rattle.request_words.specs.Request.{Search, request_of, compile, check, verify, report};
 ghost use Rattle.run_answers.specs.declared.answer.Answer.{Answer};
-ghost use Rattle.qccd.specs.Work.{Work, make, judged, reported, IsTightTextOf};
-ghost use Rattle.qccd.specs.Found.{Found};
-ghost use Rattle.qccd.specs.Prepare.{Prepares};
+ghost use Rattle.run_stages.specs.declared.ending.Ending.{Ending};
+ghost use Rattle.run_stages.specs.Exact.{IsLeastWritten};
+ghost use Rattle.run_stages.specs.Work.{Work, make, fewest, judged, reported, verified, IsTightTextOf};
+ghost use Rattle.run_stages.specs.Found.{Found};
+ghost use Rattle.run_stages.specs.Prepare.{Prepares};
 ghost use Rattle.qccd.specs.Run.{Devices, Runs};
 ghost use Rattle.qccd.specs.Headline.{Compiled};
 ghost use Rattle.qccd.specs.RoundTrip.{IsAccepted};
 
-/// The headline: a compilation that answers Ok wrote the text of the placement of the rule and of a schedule that plays
-/// from it, for the circuit and the trap of the files that were found.
+use verify_core::{accepted_schedules_are_least, one_verification};
+
+/// The headline: a compilation that answers Ok wrote the text of the placement of the rule and of a schedule that
+/// plays from it, for the circuit and the trap of the files that were found. In exact mode no such schedule has fewer
+/// steps, and what was put under the name of the certificate shows it.
 pub fn an_ok_compilation_is_compiled()
-    ensures { (words : List (List ℕ)) (circuit trap : List ℕ) (rule : PlaceRule) (before now : Devices)
-        → request_of words ≡ Some (compile circuit trap rule None) → (run : Runs words before now Answer.Ok)
-        → Compiled run.found rule before.out.taken now.out.taken }
+    ensures { (words : List (List ℕ)) (circuit trap : List ℕ) (rule : PlaceRule)
+        (exact : Option Search) (before now : Devices)
+        → request_of words ≡ Some (compile circuit trap rule exact) → (run : Runs words before now Answer.Ok)
+        → Compiled run.found rule exact before now }
 {}
+
+/// Where a verification comes to work, its schedule has the fewest steps of all that play from its placement,
+/// whoever wrote the certificate.
+pub fn a_verified_schedule_is_least()
+    ensures { (found : Found) (words : List (List ℕ)) (setting : SettingValue) (steps : List (List Action))
+        → Prepares found words (Ok (verified setting steps)) → IsLeast setting steps }
+{
+    accepted_schedules_are_least();
+}
 
 /// Words and files come to one outcome.
 pub fn one_outcome()
-    ensures { (found : Found) (words : List (List ℕ)) (a b : Result Work Answer) → Prepares found words a → Prepares found words b → a ≡ b }
-{}
+    ensures { (found : Found) (words : List (List ℕ)) (a b : Result Work Answer)
+        → Prepares found words a → Prepares found words b → a ≡ b }
+{
+    one_verification();
+}
 
 /// A check of the text that a compilation wrote says that it is legal, and a report reports it, where the same circuit
 /// and trap are found, and the text as the schedule.
 pub fn a_compiled_schedule_is_legal()
-    ensures checked { (found checked : Found) (words check_words : List (List ℕ)) (circuit trap circuit_again trap_again schedule text : List ℕ)
-        (rule : PlaceRule) (setting : SettingValue)
-        → request_of words ≡ Some (compile circuit trap rule None) → request_of check_words ≡ Some (check circuit_again trap_again schedule)
+    ensures checked { (found checked : Found) (words check_words : List (List ℕ))
+        (circuit trap circuit_again trap_again schedule text : List ℕ) (rule : PlaceRule) (setting : SettingValue)
+        → request_of words ≡ Some (compile circuit trap rule None)
+        → request_of check_words ≡ Some (check circuit_again trap_again schedule)
         → Prepares found words (Ok (make setting)) → IsTightTextOf setting text
-        → checked.circuit ≡ found.circuit → checked.trap ≡ found.trap → checked.schedule ≡ Some text → length text ≤ 2 ^ 30
+        → checked.circuit ≡ found.circuit → checked.trap ≡ found.trap
+        → checked.schedule ≡ Some text → length text ≤ 2 ^ 30
         → IsAccepted judged checked check_words setting text }
-    ensures reported { (found checked : Found) (words report_words : List (List ℕ)) (circuit trap circuit_again trap_again schedule text : List ℕ)
-        (rule : PlaceRule) (setting : SettingValue)
-        → request_of words ≡ Some (compile circuit trap rule None) → request_of report_words ≡ Some (report circuit_again trap_again schedule)
+    ensures reported { (found checked : Found) (words report_words : List (List ℕ))
+        (circuit trap circuit_again trap_again schedule text : List ℕ) (rule : PlaceRule) (setting : SettingValue)
+        → request_of words ≡ Some (compile circuit trap rule None)
+        → request_of report_words ≡ Some (report circuit_again trap_again schedule)
         → Prepares found words (Ok (make setting)) → IsTightTextOf setting text
-        → checked.circuit ≡ found.circuit → checked.trap ≡ found.trap → checked.schedule ≡ Some text → length text ≤ 2 ^ 30
+        → checked.circuit ≡ found.circuit → checked.trap ≡ found.trap
+        → checked.schedule ≡ Some text → length text ≤ 2 ^ 30
         → IsAccepted reported checked report_words setting text }
+{}
+
+/// A verification accepts what a compilation in exact mode wrote and put, where the same circuit and trap are found, the
+/// text as the schedule, and what was put as the certificate.
+pub fn a_certified_schedule_is_verified()
+    ensures { (found again : Found) (words verify_words : List (List ℕ))
+        (circuit trap circuit_again trap_again schedule cert : List ℕ)
+        (rule : PlaceRule) (exact : Search) (setting : SettingValue) (max budget : ℕ) (ending : Ending)
+        → request_of words ≡ Some (compile circuit trap rule (Some exact))
+        → request_of verify_words ≡ Some (verify circuit_again trap_again schedule cert)
+        → Prepares found words (Ok (fewest setting max budget)) → (is : IsLeastWritten setting max ending)
+        → again.circuit ≡ found.circuit → again.trap ≡ found.trap
+        → again.schedule ≡ Some ending.text → length ending.text ≤ 2 ^ 30
+        → again.certificate ≡ Some is.put → length is.put ≤ 2 ^ 50
+        → IsAccepted verified again verify_words setting ending.text }
 {}

@@ -7,7 +7,7 @@ use Rattle.std.specs.Str.Parse.{digits_value}
 use Rattle.std.specs.declared.string.String.{String}
 use Rattle.std.specs.declared.alloc.Global.{Global}
 use Rattle.request_words.specs.declared.file.File.{File}
-use Rattle.request_words.specs.declared.file.File.TheVariants.{Circuit, Trap, Schedule}
+use Rattle.request_words.specs.declared.file.File.TheVariants.{Circuit, Trap, Schedule, Certificate}
 use Rattle.placement.specs.declared.rule.PlaceRule.{PlaceRule}
 use Rattle.placement.specs.declared.rule.PlaceRule.TheVariants.{Declared, FirstUse, Given}
 
@@ -138,18 +138,20 @@ request_of (command ∷ words) =
 
 -- ---- files
 
--- a circuit, a trap, and perhaps a schedule
-abbrev pub named : List ℕ → List ℕ → Option (List ℕ) → File → Option (List ℕ)
-named circuit trap schedule Circuit = Some circuit
-named circuit trap schedule Trap = Some trap
-named circuit trap schedule Schedule = schedule
+-- a circuit, a trap, and perhaps a schedule and its certificate
+abbrev pub named : List ℕ → List ℕ → Option (List ℕ) → Option (List ℕ) → File → Option (List ℕ)
+named circuit trap schedule cert Circuit = Some circuit
+named circuit trap schedule cert Trap = Some trap
+named circuit trap schedule cert Schedule = schedule
+named circuit trap schedule cert Certificate = cert
 
--- the name of the file that is read as such a file, where one is; the schedule of a load is written
+-- the name of the file that is read as such a file, where one is; the certificate of exact mode and the schedule of a
+-- load are written
 abbrev pub file_of : Asked → File → Option (List ℕ)
-file_of (compile circuit trap rule search) file = named circuit trap None file
-file_of (check circuit trap schedule) file = named circuit trap (Some schedule) file
-file_of (verify circuit trap schedule cert) file = named circuit trap (Some schedule) file
-file_of (report circuit trap schedule) file = named circuit trap (Some schedule) file
+file_of (compile circuit trap rule search) file = named circuit trap None None file
+file_of (check circuit trap schedule) file = named circuit trap (Some schedule) None file
+file_of (verify circuit trap schedule cert) file = named circuit trap (Some schedule) (Some cert) file
+file_of (report circuit trap schedule) file = named circuit trap (Some schedule) None file
 file_of (load seed schedule) file = None
 
 -- the name under which the request puts a file, where it puts one: the certificate of exact mode, and the schedule of a load

@@ -9,4 +9,6 @@ pub enum File {
     Trap,
     /// The schedule that is to be judged.
     Schedule,
+    /// The certificate of a schedule that is to be verified.
+    Certificate,
 }

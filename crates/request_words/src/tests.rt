@@ -170,3 +170,19 @@ fn no_requests(rt: HostRuntime) -> Result<(), Fail> {
     ];
     ask(&rt, rt.alloc(), &rows)
 }
+
+#[test]
+fn names_that_are_put(rt: HostRuntime) -> Result<(), Fail> {
+    let rows: [(&[&str], Option<&str>); 4] = [
+        (&["compile", "c", "t"], None),
+        (&["compile", "c", "t", "--exact=x"], Some("x")),
+        (&["verify", "c", "t", "s", "x"], None),
+        (&["load", "7", "s"], Some("s")),
+    ];
+    for (texts, name) in rows {
+        let words = words(rt.alloc(), texts)?;
+        let put = request_of(&words).and_then(|request| request.put());
+        assert!(rt; put == name);
+    }
+    Ok(())
+}

@@ -11,6 +11,7 @@ use Rattle.run_answers.specs.TrapLines.{trap_said}
 use Rattle.run_answers.specs.PlaceLines.{place_said}
 use Rattle.run_answers.specs.RoomLines.{room_said}
 use Rattle.run_answers.specs.ScheduleLines.{play_said}
+use Rattle.run_answers.specs.ExactLines.{large_said, cert_said}
 
 -- the status that the program ends with
 abbrev pub status_of : Answer → ℕ
@@ -23,17 +24,21 @@ status_of (answers.Expand fault) = 4
 status_of (answers.Trap fault) = 5
 status_of (answers.Place fault) = 6
 status_of (answers.Room fault) = 6
+status_of (answers.TooLarge what count) = 7
+status_of (answers.NoneWithin max) = 8
+status_of (answers.Budget budget) = 9
 status_of (answers.Text line) = 11
 status_of (answers.Illegal fault) = 11
+status_of (answers.Cert fault) = 11
 status_of answers.WriteFault = 10
 status_of answers.NoMemory = 12
-status_of answers.Unbuilt = 13
 
 -- the word for a file
 abbrev pub file_word : File → List ℕ
 file_word files.Circuit = codes "circuit"
 file_word files.Trap = codes "trap"
 file_word files.Schedule = codes "schedule"
+file_word files.Certificate = codes "certificate"
 
 -- what is said of an answer, in pieces; nothing where all went well
 abbrev pub said : Names → Answer → List (List ℕ)
@@ -46,11 +51,14 @@ said names (answers.Expand fault) = expand_said fault
 said names (answers.Trap fault) = trap_said fault
 said names (answers.Place fault) = place_said names fault
 said names (answers.Room fault) = room_said names fault
+said names (answers.TooLarge what count) = large_said what count
+said names (answers.NoneWithin max) = codes "no schedule of at most " ∷ decimal max ∷ codes " steps" ∷ []
+said names (answers.Budget budget) = codes "budget of " ∷ decimal budget ∷ codes " spent" ∷ []
 said names (answers.Text line) = codes "schedule line " ∷ decimal line ∷ []
 said names (answers.Illegal fault) = play_said fault
+said names (answers.Cert fault) = cert_said fault
 said names answers.WriteFault = codes "cannot write" ∷ []
 said names answers.NoMemory = codes "no memory" ∷ []
-said names answers.Unbuilt = codes "not built" ∷ []
 
 -- the line of the answer says names of the circuit or the trap that were read
 abbrev pub cites_names : Answer → Bool

@@ -5,4 +5,5 @@ pub mod TrapLines
 pub mod PlaceLines
 pub mod RoomLines
 pub mod ScheduleLines
+pub mod ExactLines
 pub mod Answer

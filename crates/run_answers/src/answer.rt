@@ -6,12 +6,15 @@ ghost use Rattle.run_answers.specs.Line.{line_text};
 ghost use Rattle.run_answers.specs.Names.{names_of};
 
 use crate::circuit_lines::{expand_line, qasm_line};
+use crate::exact_lines::{cert_line, large_word};
+use crate::large::Large;
 use crate::line::Line;
 use crate::names::Names;
 use crate::place_lines::place_line;
 use crate::room_lines::room_line;
 use crate::schedule_lines::play_line;
 use crate::trap_lines::trap_line;
+use derivation_check::CertFault;
 use gate_expand::ExpandFault;
 use greedy_router::RoomFault;
 use placement::PlaceFault;
@@ -41,16 +44,22 @@ pub enum Answer {
     Place(PlaceFault),
     /// The trap has no room for the circuit.
     Room(RoomFault),
+    /// The first count that is above the limit of exact mode.
+    TooLarge { what: Large, count: u64 },
+    /// There is no schedule of at most that many steps.
+    NoneWithin { max: u64 },
+    /// The search derived that many lines, and isn't at its end.
+    Budget { budget: u64 },
     /// The first bad line of the schedule's file, counted from 1.
     Text { line: u64 },
     /// The first fault of the schedule.
     Illegal(PlayFault),
+    /// The first fault of the schedule's certificate.
+    Cert(CertFault),
     /// The output failed.
     WriteFault,
     /// Memory ran out.
     NoMemory,
-    /// What is asked for isn't built yet.
-    Unbuilt,
 }
 
 impl Answer {
@@ -65,10 +74,12 @@ impl Answer {
             Answer::Qasm(_) | Answer::Expand(_) => 4,
             Answer::Trap(_) => 5,
             Answer::Place(_) | Answer::Room(_) => 6,
+            Answer::TooLarge { .. } => 7,
+            Answer::NoneWithin { .. } => 8,
+            Answer::Budget { .. } => 9,
             Answer::WriteFault => 10,
-            Answer::Text { .. } | Answer::Illegal(_) => 11,
+            Answer::Text { .. } | Answer::Illegal(_) | Answer::Cert(_) => 11,
             Answer::NoMemory => 12,
-            Answer::Unbuilt => 13,
         }
     }
 
@@ -86,11 +97,19 @@ impl Answer {
             Answer::Trap(fault) => trap_line(fault),
             Answer::Place(fault) => place_line(fault, names),
             Answer::Room(fault) => room_line(fault, names),
+            Answer::TooLarge { what, count } => Line::start(b"too large: ")
+                .number(*count)
+                .text(b" ")
+                .text(large_word(*what)),
+            Answer::NoneWithin { max } => Line::start(b"no schedule of at most ")
+                .number(*max)
+                .text(b" steps"),
+            Answer::Budget { budget } => Line::start(b"budget of ").number(*budget).text(b" spent"),
             Answer::Text { line } => Line::start(b"schedule line ").number(*line),
             Answer::Illegal(fault) => play_line(fault),
+            Answer::Cert(fault) => cert_line(fault),
             Answer::WriteFault => Line::start(b"cannot write"),
             Answer::NoMemory => Line::start(b"no memory"),
-            Answer::Unbuilt => Line::start(b"not built"),
         }
     }
 
@@ -110,5 +129,6 @@ fn file_word(file: File) -> &'static [u8]
         File::Circuit => b"circuit",
         File::Trap => b"trap",
         File::Schedule => b"schedule",
+        File::Certificate => b"certificate",
     }
 }

@@ -3,6 +3,8 @@
 
 mod answer;
 mod circuit_lines;
+mod exact_lines;
+mod large;
 mod line;
 mod names;
 mod piece;
@@ -14,6 +16,7 @@ mod tests;
 mod trap_lines;
 
 pub use answer::Answer;
+pub use large::Large;
 pub use line::Line;
 pub use names::Names;
 pub use piece::Piece;

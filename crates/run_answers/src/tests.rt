@@ -4,8 +4,9 @@ ghost use Rattle.std.specs.Prelude.{IsTrue, All, IfOk};
 ghost use Rattle.trap_model.specs.Names.{is_name};
 ghost use Rattle.trap_model.specs.Build.{AreNames};
 
-use crate::{Answer, File, Line, Names};
+use crate::{Answer, File, Large, Line, Names};
 use circuit_core::{Circuit, Reg};
+use derivation_check::CertFault;
 use placement::PlaceFault;
 use qasm_read::QasmFault;
 use qc_base::{MemSink, Name, NoMemory, OpId, PlaceId, Qubit};
@@ -51,10 +52,16 @@ fn words_files_and_devices(rt: HostRuntime) -> Result<(), Fail> {
             3,
             b"qccd: trap is too long\n",
         ),
+        (
+            Answer::ReadFault {
+                file: File::Certificate,
+            },
+            3,
+            b"qccd: cannot read certificate\n",
+        ),
         (Answer::Text { line: 6 }, 11, b"qccd: schedule line 6\n"),
         (Answer::WriteFault, 10, b"qccd: cannot write\n"),
         (Answer::NoMemory, 12, b"qccd: no memory\n"),
-        (Answer::Unbuilt, 13, b"qccd: not built\n"),
     ];
     answers(&rt, rt.alloc(), &rows)
 }
@@ -142,6 +149,82 @@ fn faults_of_a_schedule(rt: HostRuntime) -> Result<(), Fail> {
             Answer::Illegal(PlayFault::Missing { op: OpId(0) }),
             11,
             b"qccd: operation 0 missing\n",
+        ),
+    ];
+    answers(&rt, rt.alloc(), &rows)
+}
+
+#[test]
+fn limits_and_searches(rt: HostRuntime) -> Result<(), Fail> {
+    let rows: [(Answer, u8, &[u8]); 6] = [
+        (
+            Answer::TooLarge {
+                what: Large::Ions,
+                count: 17,
+            },
+            7,
+            b"qccd: too large: 17 ions\n",
+        ),
+        (
+            Answer::TooLarge {
+                what: Large::Places,
+                count: 49,
+            },
+            7,
+            b"qccd: too large: 49 places\n",
+        ),
+        (
+            Answer::TooLarge {
+                what: Large::Operations,
+                count: 201,
+            },
+            7,
+            b"qccd: too large: 201 operations\n",
+        ),
+        (
+            Answer::TooLarge {
+                what: Large::Steps,
+                count: u64::MAX,
+            },
+            7,
+            b"qccd: too large: 18446744073709551615 steps\n",
+        ),
+        (
+            Answer::NoneWithin { max: 0 },
+            8,
+            b"qccd: no schedule of at most 0 steps\n",
+        ),
+        (
+            Answer::Budget { budget: 100_000 },
+            9,
+            b"qccd: budget of 100000 spent\n",
+        ),
+    ];
+    answers(&rt, rt.alloc(), &rows)
+}
+
+#[test]
+fn faults_of_a_certificate(rt: HostRuntime) -> Result<(), Fail> {
+    let rows: [(Answer, u8, &[u8]); 4] = [
+        (
+            Answer::Cert(CertFault::Line { n: 2 }),
+            11,
+            b"qccd: certificate line 2\n",
+        ),
+        (
+            Answer::Cert(CertFault::Bad { n: 4 }),
+            11,
+            b"qccd: certificate line 4 is no resolution\n",
+        ),
+        (
+            Answer::Cert(CertFault::NotRefuting),
+            11,
+            b"qccd: certificate refutes nothing asked\n",
+        ),
+        (
+            Answer::Cert(CertFault::Endless),
+            11,
+            b"qccd: certificate is endless\n",
         ),
     ];
     answers(&rt, rt.alloc(), &rows)

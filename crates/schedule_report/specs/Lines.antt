@@ -15,3 +15,7 @@ abbrev pub load_lines : ℕ → ℕ → List (List Action) → List ℕ
 load_lines seed operations steps =
     count_line (codes "load") seed ++ count_line (codes "operations") operations
     ++ count_line (codes "steps") (counts_of steps).steps ++ count_line (codes "actions") (counts_of steps).actions
+
+-- what a verification says of a schedule with so many steps, which are the fewest
+abbrev pub least_line : ℕ → List ℕ
+least_line steps = count_line (codes "least steps") steps

@@ -13,7 +13,7 @@ mod totals;
 
 pub use counting::counts;
 pub use laws::{few_actions_are_counted_exactly, kinds_make_up_the_actions, no_step_performs_more};
-pub use lines::{legal_line, load_lines};
+pub use lines::{least_line, legal_line, load_lines};
 pub use printer::report;
 pub use tally::Tally;
 pub use totals::Counts;

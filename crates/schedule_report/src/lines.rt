@@ -1,8 +1,8 @@
-//! What is said of a schedule in short: by a check, and by a load.
+//! What is said of a schedule in short: by a check, by a verification, and by a load.
 
 ghost use Rattle.std.specs.Prelude.{◌≡◌, ◌++◌, decimal, IfOk, OnOk};
 ghost use Rattle.schedule_report.specs.Report.{count_line};
-ghost use Rattle.schedule_report.specs.Lines.{legal_line, load_lines};
+ghost use Rattle.schedule_report.specs.Lines.{legal_line, least_line, load_lines};
 
 use crate::counting::counts;
 use qc_base::{NoMemory, push_number};
@@ -37,6 +37,15 @@ pub fn legal_line(alloc: Global, schedule: &Schedule) -> Result<Vec<u8>, NoMemor
     push_count(&mut out, b" actions ", counts.actions)?;
     push_count(&mut out, b" operations ", counts.ops)?;
     out.extend_from_slice(b"\n")?;
+    Ok(out)
+}
+
+/// The line of a verification of a schedule with so many steps, which are the fewest.
+pub fn least_line(alloc: Global, steps: u64) -> Result<Vec<u8>, NoMemory>
+    ensures { IfOk result (λ text. text.items ≡ least_line steps) }
+{
+    let mut out = Vec::new(alloc);
+    push_line(&mut out, b"least steps", steps)?;
     Ok(out)
 }
 

@@ -4,7 +4,7 @@ ghost use Rattle.std.specs.Prelude.{◌≡◌, IsTrue, All, IfOk};
 ghost use Rattle.circuit_core.specs.Circuit.{qubit_count};
 ghost use Rattle.trap_model.specs.Names.{is_name};
 
-use crate::{Counts, counts, legal_line, load_lines, report};
+use crate::{Counts, counts, least_line, legal_line, load_lines, report};
 use circuit_core::{Circuit, Qubits, Reg};
 use qc_base::{End, Name, NoMemory, OpId, PlaceId, Qubit};
 use std::alloc::Global;
@@ -101,7 +101,7 @@ fn report_of_two_zones(rt: HostRuntime) -> Result<(), Fail> {
 }
 
 #[test]
-fn lines_of_a_check_and_a_load(rt: HostRuntime) -> Result<(), Fail> {
+fn lines_of_a_check_a_verification_and_a_load(rt: HostRuntime) -> Result<(), Fail> {
     let alloc = rt.alloc();
     let schedule = three_steps(alloc)?;
     let wanted = Counts {
@@ -112,6 +112,8 @@ fn lines_of_a_check_and_a_load(rt: HostRuntime) -> Result<(), Fail> {
     assert!(rt; counts(&schedule) == wanted);
     let line = legal_line(alloc, &schedule)?;
     assert!(rt; line.as_slice() == b"legal steps 3 actions 3 operations 1\n".as_slice());
+    let line = least_line(alloc, 3)?;
+    assert!(rt; line.as_slice() == b"least steps 3\n".as_slice());
     let lines = load_lines(alloc, 7, 2_000, &schedule)?;
     assert!(rt; lines.as_slice() == b"load 7\noperations 2000\nsteps 3\nactions 3\n".as_slice());
     Ok(())

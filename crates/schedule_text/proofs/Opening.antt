@@ -14,7 +14,7 @@ use Rattle.step_rules.specs.Placement.{reading_order, times}
 use Rattle.step_rules.proofs.Reading.{times-append, times_none, times_some, flags_grown}
 use Rattle.step_rules.proofs.Placements.{grown}
 use Rattle.schedule_text.specs.Progress.{Opens, capacity}
-use Rattle.schedule_text.specs.Standing.{AreOnce, AreMarked, AreIn}
+use Rattle.schedule_text.specs.ZoneLists.{AreOnce, AreMarked, AreIn}
 use Rattle.schedule_text.proofs.Placing.{other_limit, zones_in, order_parts}
 use Rattle.schedule_text.proofs.Rooms.{room_in, in_capacity}
 
@@ -116,15 +116,15 @@ small_room trap k sound =
 pub small_order : (trap : TrapValue) (lists : List (List Qubit)) → IsTrap trap → AreApart trap.zones lists → length (reading_order lists) ≤ 1024
 small_order trap lists sound apart = omega (arith, in_capacity trap.zones lists apart.0, small_room trap 0 sound)
 
-pub apart_opens : (trap : TrapValue) (circuit : CircuitValue) (lists : List (List Qubit)) (count room standing : ℕ) → length lists ≤ length trap.zones → All (λ (qubit : Qubit). qubit.0 < qubit_count circuit) (reading_order lists) → AreApart trap.zones lists
-    → count ≡ qubit_count circuit → standing ≡ length (reading_order lists) → room ≡ capacity (drop (length lists) trap.zones) → IsTrue (nat_le count (standing + room)) ↔ Opens trap circuit lists
-apart_opens trap circuit lists count room standing few qubits apart all there is = (
+pub apart_opens : (trap : TrapValue) (circuit : CircuitValue) (lists : List (List Qubit)) (count room placed : ℕ) → length lists ≤ length trap.zones → All (λ (qubit : Qubit). qubit.0 < qubit_count circuit) (reading_order lists) → AreApart trap.zones lists
+    → count ≡ qubit_count circuit → placed ≡ length (reading_order lists) → room ≡ capacity (drop (length lists) trap.zones) → IsTrue (nat_le count (placed + room)) ↔ Opens trap circuit lists
+apart_opens trap circuit lists count room placed few qubits apart all there is = (
   λ enough. record {
     zones = few;
     qubits = qubits;
     once = apart.1;
     room = λ zone list e. room_in trap.zones lists zone (other_limit trap zone) list apart.0 e;
-    left = omega (arith, leb-true count (standing + room) enough);
+    left = omega (arith, leb-true count (placed + room) enough);
   },
-  λ opened. le-leb count (standing + room) (omega (arith, opened.left)),
+  λ opened. le-leb count (placed + room) (omega (arith, opened.left)),
 )

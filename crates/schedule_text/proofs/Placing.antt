@@ -18,7 +18,7 @@ use Rattle.step_rules.proofs.Reading.{times-append}
 use Rattle.schedule_text.specs.Text.{place_line, place_lines, action_line, step_lines}
 use Rattle.schedule_text.specs.Reading.{IsKnown, BeginsText}
 use Rattle.schedule_text.specs.Progress.{Opens, head_text, steps_text, capacity}
-use Rattle.schedule_text.specs.Standing.{AreIn}
+use Rattle.schedule_text.specs.ZoneLists.{AreIn}
 use Rattle.schedule_text.proofs.PlaceLines.{no_lists}
 use Rattle.step_rules.proofs.Accepted.{at_most_once}
 use Rattle.step_rules.proofs.Counted.{all_once, counted}

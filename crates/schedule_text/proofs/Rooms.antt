@@ -8,7 +8,7 @@ use Rattle.qc_base.specs.declared.ids.Qubit.{Qubit}
 use Rattle.trap_model.specs.declared.parts.ZonePart.{ZonePart}
 use Rattle.step_rules.specs.Placement.{reading_order}
 use Rattle.schedule_text.specs.Progress.{capacity}
-use Rattle.schedule_text.specs.Standing.{AreIn}
+use Rattle.schedule_text.specs.ZoneLists.{AreIn}
 
 -- the capacity of that zone, or something else where there is none
 abbrev pub room_at : List ZonePart → ℕ → ℕ → ℕ

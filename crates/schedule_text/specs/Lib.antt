@@ -3,4 +3,4 @@ pub mod Reading
 -- ---- working notions of private functions
 pub mod Progress
 pub mod Words
-pub mod Standing
+pub mod ZoneLists

@@ -6,7 +6,7 @@ ghost use Rattle.circuit_core.specs.Circuit.{qubit_count};
 ghost use Rattle.trap_model.specs.Build.{IsTrap};
 ghost use Rattle.step_rules.specs.Placement.{reading_order};
 ghost use Rattle.schedule_text.specs.Progress.{capacity, Opens};
-ghost use Rattle.schedule_text.specs.Standing.{AreOnce, AreMarked, AreIn};
+ghost use Rattle.schedule_text.specs.ZoneLists.{AreOnce, AreMarked, AreIn};
 
 use circuit_core::{Circuit, Qubits};
 use qc_base::{NoMemory, Qubit};
@@ -26,7 +26,7 @@ fn room(zones: &[ZonePart]) -> usize
 }
 
 // How many qubits are in the lists.
-fn standing(lists: &[Qubits]) -> usize
+fn placed_count(lists: &[Qubits]) -> usize
     requires { length (reading_order lists.now) < 2 ^ 32 }
     ensures { result ≡ length (reading_order lists.now) }
 {
@@ -96,7 +96,7 @@ pub fn is_open(
         return Ok(false);
     }
     let left = room(&zones[lists.len()..]);
-    Ok(circuit.qubits() as usize <= standing(lists) + left)
+    Ok(circuit.qubits() as usize <= placed_count(lists) + left)
 }
 
 /// Whether the zones together have room for all qubits.

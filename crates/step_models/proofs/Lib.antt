@@ -5,3 +5,5 @@ pub mod Room
 pub mod Ready
 pub mod Step
 pub mod Parts
+pub mod FewLimited
+pub mod Few

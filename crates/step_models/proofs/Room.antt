@@ -1,5 +1,5 @@
 -- A setting within the limits of exact mode has few variables.
-use Rattle.std.proofs.Common.{◌≡◌, ℕ, zero, suc, ◌+◌, ◌-◌, ◌*◌, ◌^◌, ◌≤◌, Bool, List, [], ◌∷◌, length, map, refl, ap, subst, arith, inl, inr, length-append}
+use Rattle.std.proofs.Common.{◌≡◌, ℕ, zero, suc, ◌+◌, ◌-◌, ◌*◌, ◌^◌, ◌<◌, ◌≤◌, Bool, List, [], ◌∷◌, length, map, refl, ap, subst, arith, inl, inr, length-append}
 use Rattle.std.specs.Prelude.{filter}
 use Rattle.std.specs.List.{flat_map, range_with_len}
 use Rattle.std.proofs.lemmas.Bool.{cases_lt, cond_both}
@@ -26,30 +26,30 @@ use Rattle.step_vars.proofs.HelperCounts.{helper_count-append, fresh_one_few, fr
 
 -- ---- lengths
 
-filter_few : {A : Type 0} (p : A → Bool) (xs : List A) → length (filter p xs) ≤ length xs
+pub filter_few : {A : Type 0} (p : A → Bool) (xs : List A) → length (filter p xs) ≤ length xs
 filter_few p [] = omega arith
 filter_few p (x ∷ xs) =
     cond_both (p x) (x ∷ filter p xs) (filter p xs) (λ ys. length ys ≤ suc (length xs))
     (λ _. omega (arith, filter_few p xs)) (λ _. omega (arith, filter_few p xs))
 
-flat_map_few : {A B : Type 0} (f : A → List B) (m : ℕ) (xs : List A) → ((x : A) → length (f x) ≤ m)
+pub flat_map_few : {A B : Type 0} (f : A → List B) (m : ℕ) (xs : List A) → ((x : A) → length (f x) ≤ m)
     → length (flat_map f xs) ≤ length xs * m
 flat_map_few f m [] each = omega arith
 flat_map_few f m (x ∷ xs) each =
     omega (arith, length-append (f x) (flat_map f xs), each x, flat_map_few f m xs each)
 
-range_long : (a n : ℕ) → length (range_with_len a n) ≡ n
+pub range_long : (a n : ℕ) → length (range_with_len a n) ≡ n
 range_long a zero = refl
 range_long a (suc n) = ap suc (range_long (a + 1) n)
 
 -- rows of no more than ions each
-few_pairs : (ions : ℕ) → ions ≤ 16 → length (pairs_of ions) ≤ 16 * 16
+pub few_pairs : (ions : ℕ) → ions ≤ 16 → length (pairs_of ions) ≤ 16 * 16
 few_pairs ions h =
     let rows = flat_map_few (λ i. map (cell i) (between (i + 1) ions)) 16 (range_with_len 0 ions)
     (λ i. omega (arith, length-map (between (i + 1) ions) (cell i), range_long (i + 1) (ions - (i + 1)))) in
     omega (arith, rows, range_long 0 ions)
 
-few_performed : (setting : SettingValue) → length (performed setting.circuit) ≤ length setting.circuit.ops
+pub few_performed : (setting : SettingValue) → length (performed setting.circuit) ≤ length setting.circuit.ops
 few_performed setting =
     omega (
       arith,
@@ -57,7 +57,7 @@ few_performed setting =
       range_long 0 (length setting.circuit.ops),
     )
 
-few_acts : (setting : SettingValue) → length setting.circuit.ops ≤ 200 → length setting.trap.zones ≤ 32
+pub few_acts : (setting : SettingValue) → length setting.circuit.ops ≤ 200 → length setting.trap.zones ≤ 32
     → length (acts_of setting) ≤ 200 * 32
 few_acts setting ops zones =
     let rows = flat_map_few (λ g. map (cell g) (able_zones setting g)) 32 (performed setting.circuit)
@@ -77,17 +77,17 @@ helpers_few : (encoding : Encoding) (f : ℕ → Bound) (m : ℕ) (xs : List ℕ
 helpers_few encoding f m [] each = omega arith
 helpers_few encoding f m (x ∷ xs) each = omega (arith, each x, helpers_few encoding f m xs each)
 
-few_activities : (setting : SettingValue) (p : ℕ) → IsTrap setting.trap → ion_count setting ≤ 16
+pub few_activities : (setting : SettingValue) (t p : ℕ) → IsTrap setting.trap → ion_count setting ≤ 16
     → length setting.circuit.ops ≤ 200
-    → length (activities_at setting 1 p) ≤ 2504
-few_activities setting p trap ions ops =
+    → length (activities_at setting t p) ≤ 2504
+few_activities setting t p trap ions ops =
     let passing : length (filter (touches p) (channels_of setting.trap)) ≤ 2048 =
     omega (arith, filter_few (touches p) (channels_of setting.trap), few_channels setting.trap trap) in
     let able : length (able_ops setting p) ≤ 200 =
     omega (arith, filter_few (is_able_for setting p) (performed setting.circuit), few_performed setting) in
     elim (cases_lt p (length setting.trap.zones)) [
-      | inl zone ↦ omega (arith, zone_counted setting 1 p zone, few_pairs (ion_count setting) ions)
-      | inr slot ↦ omega (arith, slot_counted setting 1 p slot)
+      | inl zone ↦ omega (arith, zone_counted setting t p zone, few_pairs (ion_count setting) ions)
+      | inr slot ↦ omega (arith, slot_counted setting t p slot)
     ]
 
 few_place_helpers : (setting : SettingValue) (encoding : Encoding) (steps : ℕ) → IsSmall setting steps
@@ -124,7 +124,7 @@ few_activity_helpers setting encoding steps trap small =
     (λ p. omega (
       arith,
       fresh_one_few encoding (length (activities_at setting 1 p)),
-      few_activities setting p trap small.ions small.ops,
+      few_activities setting 1 p trap small.ions small.ops,
     )) in
     let junctions = helpers_few encoding crossing 2048 (junctions_of setting)
     (λ j. omega (
@@ -182,13 +182,13 @@ small_part setting encoding steps trap small =
 
 pub variables_fit : (setting : SettingValue) (encoding : Encoding) (t : ℕ) → IsTrap setting.trap
     → IsSmall setting t
-    → before (numbering_of setting encoding) (t + 1) ≤ 2 ^ 31
+    → before (numbering_of setting encoding) (t + 1) < 2 ^ 31
 variables_fit setting encoding t trap small =
     let n = numbering_of setting encoding in
     let later = part_size (later_sizes n) in
     let parts = product_few t later 48 (2 ^ 20) small.time (small_part setting encoding t trap small) in
     let next : suc t ≡ t + 1 = omega arith in
-    subst (λ k. before n k ≤ 2 ^ 31) next
+    subst (λ k. before n k < 2 ^ 31) next
     (omega (arith, before_closed n t, parts, small_part setting encoding t trap small))
 
 pub helpers_within : (n : Numbering) (t : ℕ) → first_helper n t + (sizes_at n t).helpers ≤ before n (t + 1)

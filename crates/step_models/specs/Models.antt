@@ -1,6 +1,6 @@
 -- What the models of the clauses say: the facts of an assignment, and the theorems that tie assignments to
 -- schedules.
-use Rattle.std.specs.Prelude.{◌≡◌, ℕ, ◌+◌, ◌<◌, ◌≤◌, IsTrue, List, length}
+use Rattle.std.specs.Prelude.{◌≡◌, ℕ, ◌+◌, ◌^◌, ◌<◌, ◌≤◌, IsTrue, List, length}
 use Rattle.std.specs.List.{list_any}
 use Rattle.sat_base.specs.Clauses.{NameOnly}
 use Rattle.sat_base.specs.Truth.{Valuation, is_true, Satisfies}
@@ -12,6 +12,7 @@ use Rattle.step_vars.specs.declared.encoding.Encoding.{Encoding}
 use Rattle.step_vars.specs.Items.{so, use_item}
 use Rattle.step_vars.specs.Numbering.{Numbering, before, literal_of}
 use Rattle.step_vars.specs.Encoding.{numbering_of, encoding_of, goal_literal}
+use Rattle.step_vars.specs.Certifies.{vars_up_to}
 use Rattle.step_facts.specs.Facts.{Facts}
 use Rattle.step_facts.specs.OfSchedule.{passes_by, step_at}
 use Rattle.step_facts.specs.ToSchedule.{schedule_of}
@@ -63,3 +64,8 @@ abbrev pub PartsNameTheirVariables : SettingValue → Encoding → ℕ → Type 
 PartsNameTheirVariables setting encoding t =
     NameOnly (λ var. (1 ≤ var) × (var ≤ before (numbering_of setting encoding) (t + 1)))
     (encoding_of setting encoding t)
+
+-- the variables and the clauses of the parts 0 to t are few enough to be numbered by 31 and 63 bits
+pub record PartsAreSmall (setting : SettingValue) (encoding : Encoding) (t : ℕ) : Type 0 where
+  pub vars : vars_up_to setting encoding t < 2 ^ 31
+  pub clauses : length (encoding_of setting encoding t) < 2 ^ 63

@@ -5,7 +5,7 @@ ghost use Rattle.step_rules.specs.Setting.{SettingValue};
 ghost use Rattle.step_vars.specs.declared.encoding.Encoding.{Encoding as AnEncoding};
 ghost use Rattle.step_vars.specs.Encoding.{IsSmall};
 ghost use Rattle.step_facts.specs.Run.{IsSetting};
-ghost use Rattle.step_models.specs.Models.{EveryScheduleFits, EveryModelHasFacts, EveryModelIsASchedule, PartsNameTheirVariables};
+ghost use Rattle.step_models.specs.Models.{EveryScheduleFits, EveryModelHasFacts, EveryModelIsASchedule, PartsNameTheirVariables, PartsAreSmall};
 
 use at_most::encodings_limit;
 use step_facts::{facts_are_schedules, schedules_have_facts};
@@ -43,3 +43,9 @@ pub fn parts_name_their_variables()
 {
     encodings_limit();
 }
+
+/// Within the limits the parts 0 to t have fewer than 2^63 clauses, and fewer than 2^31 variables.
+pub fn parts_are_small()
+    ensures { (setting : SettingValue) (encoding : AnEncoding) (t : ℕ)
+        → IsSetting setting → IsSmall setting t → PartsAreSmall setting encoding t }
+{}

@@ -4,5 +4,6 @@
 mod laws;
 
 pub use laws::{
-    every_schedule_fits, models_are_schedules, models_have_facts, parts_name_their_variables,
+    every_schedule_fits, models_are_schedules, models_have_facts, parts_are_small,
+    parts_name_their_variables,
 };

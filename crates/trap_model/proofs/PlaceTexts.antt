@@ -1,7 +1,8 @@
 -- How places are written, and which place a text is.
-use Rattle.std.proofs.Common.{◌≡◌, ◌≢◌, ℕ, ◌+◌, ◌-◌, ◌<◌, ◌≤◌, ◌^◌, Bool, true, false, ◌&&◌, List, [], ◌∷◌, ◌++◌, length, take, drop, get_or, find, Option, None, Some, zero, suc, refl, sym, ap, ◌∙◌, arith, slice_get, inl, inr, eqb, leb, append_assoc, codes, map, length-append}
+use Rattle.std.proofs.Common.{◌≡◌, ◌≢◌, ◌==◌, ℕ, ◌+◌, ◌-◌, ◌<◌, ◌≤◌, ◌^◌, Bool, true, false, ◌&&◌, List, [], ◌∷◌, ◌++◌, length, take, drop, get_or, find, Option, None, Some, zero, suc, refl, sym, ap, ◌∙◌, arith, slice_get, inl, inr, eqb, leb, append_assoc, codes, map, length-append}
 use Rattle.std.specs.Fmt.{decimal}
-use Rattle.std.specs.List.{AllPairs, range_with_len, list_all, position_from}
+use Rattle.std.specs.List.{AllPairs, range_with_len, list_all, list_any, position_from}
+use Rattle.std.proofs.lemmas.List.Folds.{list_any_at, list_any_none}
 use Rattle.std.specs.Option.{option_map, MatchOption}
 use Rattle.std.specs.Str.{bytes_eq}
 use Rattle.std.proofs.lemmas.Bool.{cases_lt, cases_eq, cases_order, cases_Bool, cond-true, cond-false, and_parts, or_parts, or_right, both_ways, eq-eqb, ne_eqb, false_from_ne_true}
@@ -14,7 +15,8 @@ use Rattle.trap_model.specs.declared.parts.SegmentPart.{SegmentPart}
 use Rattle.trap_model.specs.declared.parts.ZonePart.{ZonePart}
 use Rattle.trap_model.specs.declared.port.Slot.{Slot}
 use Rattle.trap_model.specs.Names.{is_name, is_word, begins_with_letter}
-use Rattle.trap_model.specs.Texts.{has_dot, IsSlotText, IsNoSlotText}
+use Rattle.qc_base.specs.Spelling.{IsFree}
+use Rattle.trap_model.specs.Texts.{IsSlotText, IsNoSlotText}
 use Rattle.trap_model.specs.Trap.{TrapValue, names_of, slot, place_count, place_text, place_named}
 use Rattle.trap_model.specs.Joins.{firsts_from, first_slot, slots_of, zone_named, segment_named}
 use Rattle.trap_model.specs.Build.{IsTrap}
@@ -41,6 +43,10 @@ word_is_no_dot byte w =
       | inr other ↦ ne_eqb byte 46 other
     ]
 
+-- a dot is in the text
+abbrev pub has_dot : List ℕ → Bool
+has_dot text = list_any (λ byte. byte == 46) text
+
 words_have_no_dot : (bytes : List ℕ) → list_all is_word bytes ≡ true → has_dot bytes ≡ false
 words_have_no_dot [] w = refl
 words_have_no_dot (byte ∷ bytes) w =
@@ -66,9 +72,9 @@ dot_parts (x ∷ a) b (y ∷ c) d p q e =
     let rest = dot_parts a b c d (or_parts (eqb x 46) (has_dot a) p).1 (or_parts (eqb y 46) (has_dot c) q).1 tail in
     (rw (first, rest.0) refl, rest.1)
 
-pub dot_stands : (a b : List ℕ) → has_dot (a ++ 46 ∷ b) ≡ true
-dot_stands [] b = refl
-dot_stands (x ∷ a) b = or_right (eqb x 46) (has_dot (a ++ 46 ∷ b)) (dot_stands a b)
+pub dot_within : (a b : List ℕ) → has_dot (a ++ 46 ∷ b) ≡ true
+dot_within [] b = refl
+dot_within (x ∷ a) b = or_right (eqb x 46) (has_dot (a ++ 46 ∷ b)) (dot_within a b)
 
 -- where nothing occurs twice, a place is known by what is there
 pub unique : {X : Type 0} (xs : List X) (i j : ℕ) (d : X) → AllPairs (λ a b. a ≢ b) xs → i < length xs → j < length xs → get_or xs i d ≡ get_or xs j d → i ≡ j
@@ -179,7 +185,7 @@ texts_differ trap p q t hp hq e =
             | inr sq ↦
                 let b = slot_written_so trap q sq hq in
                 let alike : a.zone.name ≡ b.part.name ++ 46 ∷ decimal b.index = sym a.text ∙ e ∙ b.text in
-                absurd (both_ways (has_dot a.zone.name) (zone_no_dot trap p a.zone t zp a.is) (rw alike (dot_stands b.part.name (decimal b.index))))
+                absurd (both_ways (has_dot a.zone.name) (zone_no_dot trap p a.zone t zp a.is) (rw alike (dot_within b.part.name (decimal b.index))))
           ]
       | inr sp ↦
           let a = slot_written_so trap p sp hp in
@@ -187,7 +193,7 @@ texts_differ trap p q t hp hq e =
             | inl zq ↦
                 let b = zone_written_so trap q zq in
                 let alike : b.zone.name ≡ a.part.name ++ 46 ∷ decimal a.index = sym b.text ∙ sym e ∙ a.text in
-                absurd (both_ways (has_dot b.zone.name) (zone_no_dot trap q b.zone t zq b.is) (rw alike (dot_stands a.part.name (decimal a.index))))
+                absurd (both_ways (has_dot b.zone.name) (zone_no_dot trap q b.zone t zq b.is) (rw alike (dot_within a.part.name (decimal a.index))))
             | inr sq ↦
                 let b = slot_written_so trap q sq hq in
                 let parts = dot_parts a.part.name (decimal a.index) b.part.name (decimal b.index) (segment_no_dot trap a.segment a.part t a.there a.is) (segment_no_dot trap b.segment b.part t b.there b.is) (sym a.text ∙ e ∙ b.text) in
@@ -276,55 +282,58 @@ zone_not_found trap name e k h same =
     let none = rw (get_or_from_slice_get trap.zones k w.zone w.zone w.is) at (position_false p 0 trap.zones e k w.zone h) in
     both_ways (bytes_eq w.zone.name name) none ((bytes_eq-Decides w.zone.name name).1 (sym w.text ∙ same))
 
--- without a dot, no slot
-pub no_slot_without_dot : (trap : TrapValue) (text : List ℕ) → has_dot text ≡ false → IsNoSlotText trap text
-no_slot_without_dot trap text none place past h e =
-    let w = slot_written_so trap place past h in
-    both_ways (has_dot text) none (rw (sym e ∙ w.text) (dot_stands w.part.name (decimal w.index)))
+-- a word without a dot, by either definition
+pub free_without : (word : List ℕ) → has_dot word ≡ false → IsFree 46 word
+free_without word dotless k d h same = both_ways (has_dot word) dotless (list_any_at (λ byte. byte == 46) word k d h (eq-eqb (get_or word k d) 46 same))
 
--- a text is parted by its first dot
-pub text_cut : (text : List ℕ) (k : ℕ) → k < length text → get_or text k 0 ≡ 46 → take k text ++ 46 ∷ drop (k + 1) text ≡ text
-text_cut text k h dot = rw (← dot, ← drop_more text k 0 h) (take-append-drop k text)
+pub without_free : (word : List ℕ) → IsFree 46 word → has_dot word ≡ false
+without_free word free = list_any_none (λ byte. byte == 46) word (λ k d h. ne_eqb (get_or word k d) 46 (free k d h))
+
+-- where no word without a dot is before a dot, no slot
+pub no_slot_without_dot : (trap : TrapValue) (text : List ℕ) → IsTrap trap → ((word rest : List ℕ) → IsFree 46 word → text ≡ word ++ 46 ∷ rest → ⊥) → IsNoSlotText trap text
+no_slot_without_dot trap text t none place past h e =
+    let w = slot_written_so trap place past h in
+    none w.part.name (decimal w.index) (free_without w.part.name (segment_no_dot trap w.segment w.part t w.there w.is)) (sym e ∙ w.text)
 
 -- a slot's text has the segment's name before the first dot, and the number after it
-pub record IsCut (trap : TrapValue) (text : List ℕ) (k place : ℕ) : Type 0 where
+pub record IsCut (trap : TrapValue) (name number : List ℕ) (place : ℕ) : Type 0 where
   pub written : IsWritten trap place
-  pub name : written.part.name ≡ take k text
-  pub number : decimal written.index ≡ drop (k + 1) text
+  pub named : written.part.name ≡ name
+  pub numbered : decimal written.index ≡ number
 
-pub cut_slot : (trap : TrapValue) (text : List ℕ) (k place : ℕ) → IsTrap trap → k < length text → get_or text k 0 ≡ 46 → has_dot (take k text) ≡ false → length trap.zones ≤ place → place < place_count trap → place_text trap place ≡ text → IsCut trap text k place
-cut_slot trap text k place t h dot first past there e =
+pub cut_slot : (trap : TrapValue) (text name number : List ℕ) (place : ℕ) → IsTrap trap → text ≡ name ++ 46 ∷ number → IsFree 46 name → length trap.zones ≤ place → place < place_count trap → place_text trap place ≡ text → IsCut trap name number place
+cut_slot trap text name number place t cut free past there e =
     let w = slot_written_so trap place past there in
-    let parts = dot_parts w.part.name (decimal w.index) (take k text) (drop (k + 1) text) (segment_no_dot trap w.segment w.part t w.there w.is) first (sym w.text ∙ e ∙ sym (text_cut text k h dot)) in
-    record { written = w; name = parts.0; number = parts.1 }
+    let parts = dot_parts w.part.name (decimal w.index) name number (segment_no_dot trap w.segment w.part t w.there w.is) (without_free name free) (sym w.text ∙ e ∙ cut) in
+    record { written = w; named = parts.0; numbered = parts.1 }
 
 -- without the segment, no slot
-pub no_slot_without_segment : (trap : TrapValue) (text : List ℕ) (k : ℕ) → IsTrap trap → k < length text → get_or text k 0 ≡ 46 → has_dot (take k text) ≡ false → segment_named trap (take k text) ≡ None → IsNoSlotText trap text
-no_slot_without_segment trap text k t h dot first none place past there e =
-    let c = cut_slot trap text k place t h dot first past there e in
+pub no_slot_without_segment : (trap : TrapValue) (text name number : List ℕ) → IsTrap trap → text ≡ name ++ 46 ∷ number → IsFree 46 name → segment_named trap name ≡ None → IsNoSlotText trap text
+no_slot_without_segment trap text name number t cut free none place past there e =
+    let c = cut_slot trap text name number place t cut free past there e in
     let w = c.written in
-    let p = λ (segment : SegmentPart). bytes_eq segment.name (take k text) in
+    let p = λ (segment : SegmentPart). bytes_eq segment.name name in
     let not = rw (get_or_from_slice_get trap.segments w.segment w.part w.part w.is) at (position_false p 0 trap.segments none w.segment w.part w.there) in
-    both_ways (bytes_eq w.part.name (take k text)) not ((bytes_eq-Decides w.part.name (take k text)).1 c.name)
+    both_ways (bytes_eq w.part.name name) not ((bytes_eq-Decides w.part.name name).1 c.named)
 
 -- without a slot of that number, no slot
-pub no_slot_without_number : (trap : TrapValue) (text : List ℕ) (k s : ℕ) (part : SegmentPart) → IsTrap trap → k < length text → get_or text k 0 ≡ 46 → has_dot (take k text) ≡ false → segment_named trap (take k text) ≡ Some s
-    → part ≡ get_or trap.segments s part → ((j : ℕ) → j < part.slots → decimal j ≢ drop (k + 1) text) → IsNoSlotText trap text
-no_slot_without_number trap text k s part t h dot first found read none place past there e =
-    let c = cut_slot trap text k place t h dot first past there e in
+pub no_slot_without_number : (trap : TrapValue) (text name number : List ℕ) (s : ℕ) (part : SegmentPart) → IsTrap trap → text ≡ name ++ 46 ∷ number → IsFree 46 name → segment_named trap name ≡ Some s
+    → part ≡ get_or trap.segments s part → ((j : ℕ) → j < part.slots → decimal j ≢ number) → IsNoSlotText trap text
+no_slot_without_number trap text name number s part t cut free found read none place past there e =
+    let c = cut_slot trap text name number place t cut free past there e in
     let w = c.written in
-    let p = λ (segment : SegmentPart). bytes_eq segment.name (take k text) in
+    let p = λ (segment : SegmentPart). bytes_eq segment.name name in
     let inside = position_at p trap.segments s found in
     let is = slice_get_read trap.segments (length trap.segments) s part refl inside read in
-    let same = same_segment_name trap w.segment s w.part part t w.there inside w.is is (c.name ∙ sym (segment_found trap (take k text) s part found read)) in
+    let same = same_segment_name trap w.segment s w.part part t w.there inside w.is is (c.named ∙ sym (segment_found trap name s part found read)) in
     let count : slots_of trap w.segment ≡ part.slots = rw (same, is) refl in
-    none w.index (omega (arith, w.below, count)) c.number
+    none w.index (omega (arith, w.below, count)) c.numbered
 
 -- the slot of that segment and number
-pub slot_found : (trap : TrapValue) (text : List ℕ) (k s j : ℕ) (part : SegmentPart) → IsTrap trap → k < length text → get_or text k 0 ≡ 46 → segment_named trap (take k text) ≡ Some s
-    → part ≡ get_or trap.segments s part → j < part.slots → decimal j ≡ drop (k + 1) text → IsSlotText trap (first_slot trap s + j) text
-slot_found trap text k s j part t h dot found read below number =
-    let p = λ (segment : SegmentPart). bytes_eq segment.name (take k text) in
+pub slot_found : (trap : TrapValue) (text name number : List ℕ) (s j : ℕ) (part : SegmentPart) → IsTrap trap → text ≡ name ++ 46 ∷ number → segment_named trap name ≡ Some s
+    → part ≡ get_or trap.segments s part → j < part.slots → decimal j ≡ number → IsSlotText trap (first_slot trap s + j) text
+slot_found trap text name number s j part t cut found read below numbered =
+    let p = λ (segment : SegmentPart). bytes_eq segment.name name in
     let inside = position_at p trap.segments s found in
     let row = row_of trap s t inside in
     let is = slice_get_read trap.segments (length trap.segments) s part refl inside read in
@@ -334,8 +343,8 @@ slot_found trap text k s j part t h dot found read below number =
     record {
       after_zones = past;
       there = omega (arith, row.within, few);
-      written = rw (slice_get_past trap.zones (first_slot trap s + j) past, slot_at_row trap s j inside few, is, segment_found trap (take k text) s part found read, number)
-          (append_assoc (take k text) (46 ∷ []) (drop (k + 1) text) ∙ text_cut text k h dot);
+      written = rw (slice_get_past trap.zones (first_slot trap s + j) past, slot_at_row trap s j inside few, is, segment_found trap name s part found read, numbered)
+          (append_assoc name (46 ∷ []) number ∙ sym cut);
     }
 
 -- the place of a segment's first slot, as it is read

@@ -1,11 +1,6 @@
 -- Which texts are those of slots.
-use Rattle.std.specs.Prelude.{◌≡◌, ◌≢◌, ℕ, ◌<◌, ◌≤◌, ◌==◌, Bool, List, length}
-use Rattle.std.specs.List.{list_any}
+use Rattle.std.specs.Prelude.{◌≡◌, ◌≢◌, ℕ, ◌<◌, ◌≤◌, List, length}
 use Rattle.trap_model.specs.Trap.{TrapValue, place_count, place_text}
-
--- a dot is in the text
-abbrev pub has_dot : List ℕ → Bool
-has_dot text = list_any (λ byte. byte == 46) text
 
 -- the place is a slot, and is written so
 pub record IsSlotText (trap : TrapValue) (place : ℕ) (text : List ℕ) : Type 0 where

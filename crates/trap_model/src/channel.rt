@@ -38,40 +38,28 @@ impl Channel {
     pub(crate) fn is_split(&self, zone: u32, end: End) -> bool
         ensures { result ≡ is_split zone end self.now }
     {
-        match self.kind {
-            Kind::Split => zone == self.from.0 && same_end(end, self.from_end),
-            Kind::Move | Kind::Cross | Kind::Merge => false,
-        }
+        matches!(self.kind, Kind::Split) && zone == self.from.0 && same_end(end, self.from_end)
     }
 
     // Whether it merges into the zone by that end.
     pub(crate) fn is_merge(&self, zone: u32, end: End) -> bool
         ensures { result ≡ is_merge zone end self.now }
     {
-        match self.kind {
-            Kind::Merge => zone == self.to.0 && same_end(end, self.to_end),
-            Kind::Split | Kind::Move | Kind::Cross => false,
-        }
+        matches!(self.kind, Kind::Merge) && zone == self.to.0 && same_end(end, self.to_end)
     }
 
     // Whether it moves from slot to slot.
     pub(crate) fn is_move(&self, from: u32, to: u32) -> bool
         ensures { result ≡ is_move from to self.now }
     {
-        match self.kind {
-            Kind::Move => from == self.from.0 && to == self.to.0,
-            Kind::Split | Kind::Cross | Kind::Merge => false,
-        }
+        matches!(self.kind, Kind::Move) && from == self.from.0 && to == self.to.0
     }
 
     // Whether it passes the junction.
     pub(crate) fn is_through(&self, junction: u32) -> bool
         ensures { result ≡ is_through junction self.now }
     {
-        match self.junction {
-            Some(other) => junction == other.0,
-            None => false,
-        }
+        self.junction.is_some_and(|other| junction == other.0)
     }
 
     // Whether it crosses the junction from slot to slot.

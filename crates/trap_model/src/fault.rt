@@ -1,5 +1,8 @@
 //! Why parts are no trap.
 
+ghost use Rattle.std.specs.Prelude.{◌≡◌};
+ghost use Rattle.trap_model.specs.declared.fault.TrapFault.TheVariants.{NoMemory};
+
 use qc_base::Name;
 use std::alloc::{AllocError, AllocFailed};
 
@@ -34,9 +37,6 @@ pub enum TrapFault {
 }
 
 impl From<qc_base::NoMemory> for TrapFault {
-    ghost use Rattle.std.specs.Prelude.{◌≡◌};
-    ghost use Rattle.trap_model.specs.declared.fault.TrapFault.TheVariants.{NoMemory};
-
     ghost from_gives = { λ _ e. e ≡ NoMemory };
 
     fn from(_e: qc_base::NoMemory) -> TrapFault {
@@ -45,9 +45,6 @@ impl From<qc_base::NoMemory> for TrapFault {
 }
 
 impl From<AllocError> for TrapFault {
-    ghost use Rattle.std.specs.Prelude.{◌≡◌};
-    ghost use Rattle.trap_model.specs.declared.fault.TrapFault.TheVariants.{NoMemory};
-
     ghost from_gives = { λ _ e. e ≡ NoMemory };
 
     fn from(_e: AllocError) -> TrapFault {
@@ -56,9 +53,6 @@ impl From<AllocError> for TrapFault {
 }
 
 impl<T: Drop> From<AllocFailed<T>> for TrapFault {
-    ghost use Rattle.std.specs.Prelude.{◌≡◌};
-    ghost use Rattle.trap_model.specs.declared.fault.TrapFault.TheVariants.{NoMemory};
-
     ghost from_gives = { λ _ e. e ≡ NoMemory };
 
     fn from(_e: AllocFailed<T>) -> TrapFault {

@@ -184,36 +184,29 @@ fn push_dock(
     ensures { OnOk result
         (channels.new.items ≡ channels.old.items ++ split zone end slot ∷ merge zone end slot ∷ []) }
 {
-    channels.push(Channel {
-        kind: Kind::Split,
-        from: PlaceId(zone),
-        from_end: end,
-        to: PlaceId(slot.slot),
-        to_end: slot.end,
-        junction: None,
-    })?;
-    channels.push(Channel {
-        kind: Kind::Merge,
-        from: PlaceId(slot.slot),
-        from_end: slot.end,
-        to: PlaceId(zone),
-        to_end: end,
-        junction: None,
-    })?;
+    channels.push(channel(Kind::Split, zone, end, slot.slot, slot.end, None))?;
+    channels.push(channel(Kind::Merge, slot.slot, slot.end, zone, end, None))?;
     Ok(())
 }
 
-// A move from one place to another.
-fn a_move(from: u32, from_end: End, to: u32, to_end: End) -> Channel
-    ensures { result ≡ channel Kind.Move from from_end to to_end None }
+// The channel of that kind from one end of a place to another.
+fn channel(
+    kind: Kind,
+    from: u32,
+    from_end: End,
+    to: u32,
+    to_end: End,
+    junction: Option<JunctionId>,
+) -> Channel
+    ensures { result ≡ channel kind from from_end to to_end junction }
 {
     Channel {
-        kind: Kind::Move,
+        kind,
         from: PlaceId(from),
         from_end,
         to: PlaceId(to),
         to_end,
-        junction: None,
+        junction,
     }
 }
 
@@ -226,8 +219,8 @@ fn push_segment(place: u32, pairs: u32, channels: &mut Vec<Channel>) -> Result<(
 {
     for k in 0..pairs {
         let slot = place + k;
-        channels.push(a_move(slot, End::B, slot + 1, End::A))?;
-        channels.push(a_move(slot + 1, End::A, slot, End::B))?;
+        channels.push(channel(Kind::Move, slot, End::B, slot + 1, End::A, None))?;
+        channels.push(channel(Kind::Move, slot + 1, End::A, slot, End::B, None))?;
     }
     Ok(())
 }
@@ -260,14 +253,8 @@ fn push_arm(
 {
     for to in arms {
         if from.slot != to.slot {
-            channels.push(Channel {
-                kind: Kind::Cross,
-                from: PlaceId(from.slot),
-                from_end: from.end,
-                to: PlaceId(to.slot),
-                to_end: to.end,
-                junction: Some(JunctionId(junction)),
-            })?;
+            let through = Some(JunctionId(junction));
+            channels.push(channel(Kind::Cross, from.slot, from.end, to.slot, to.end, through))?;
         }
     }
     Ok(())

@@ -1,4 +1,4 @@
-//! The names of the parts, and what they stand for.
+//! The names of the parts, and what they mean.
 
 ghost use Rattle.std.specs.Prelude.{◌≡◌, ℕ, ◌+◌, ◌<◌, ◌≤◌, length, take, [], slice_index_or, Option};
 ghost use Rattle.std.specs.Option.{option_map};
@@ -50,39 +50,28 @@ impl TrapParts {
     pub(crate) fn zone_named(&self, name: &[u8]) -> Option<usize>
         ensures { result ≡ zone_named (lists self.now) name.now }
     {
-        for (k, zone) in self.zones.iter().enumerate() {
-            if zone.name.bytes() == name {
-                return Some(k);
-            }
-        }
-        None
+        self.zones.iter().position(|zone| zone.name.bytes() == name)
     }
 
     // The segment of that name.
     pub(crate) fn segment_named(&self, name: &[u8]) -> Option<usize>
         ensures { result ≡ segment_named (lists self.now) name.now }
     {
-        for (k, segment) in self.segments.iter().enumerate() {
-            if segment.name.bytes() == name {
-                return Some(k);
-            }
-        }
-        None
+        self.segments
+            .iter()
+            .position(|segment| segment.name.bytes() == name)
     }
 
     // The junction of that name.
     pub(crate) fn junction_named(&self, name: &[u8]) -> Option<usize>
         ensures { result ≡ junction_named (lists self.now) name.now }
     {
-        for (k, junction) in self.junctions.iter().enumerate() {
-            if junction.bytes() == name {
-                return Some(k);
-            }
-        }
-        None
+        self.junctions
+            .iter()
+            .position(|junction| junction.bytes() == name)
     }
 
-    // What the name of an end stands for.
+    // What the name of an end means.
     pub(crate) fn port(&self, name: &EndName) -> Option<Port>
         ensures { result ≡ port_named (lists self.now) name.now.name name.now.end }
     {
@@ -92,10 +81,7 @@ impl TrapParts {
         };
         match self.zone_named(bytes) {
             Some(zone) => Some(Port::Zone(zone, end)),
-            None => match self.segment_named(bytes) {
-                Some(segment) => Some(Port::Segment(segment, end)),
-                None => None,
-            },
+            None => Some(Port::Segment(self.segment_named(bytes)?, end)),
         }
     }
 

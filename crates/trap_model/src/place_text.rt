@@ -1,14 +1,14 @@
 //! How places and junctions are written.
 
-ghost use Rattle.std.specs.Prelude.{◌≡◌, ◌≢◌, ℕ, ◌<◌, ◌++◌, take, length, false, slice_index, MatchOption, OnOk, OnErr};
+ghost use Rattle.std.specs.Prelude.{◌≡◌, ◌≢◌, ℕ, ◌<◌, ◌++◌, take, length, MatchOption, OnOk, OnErr};
 ghost use Rattle.std.specs.Option.{option_map};
 ghost use Rattle.std.specs.Fmt.{decimal};
-ghost use Rattle.trap_model.specs.Texts.{has_dot, IsSlotText, IsNoSlotText};
+ghost use Rattle.trap_model.specs.Texts.{IsSlotText, IsNoSlotText};
 ghost use Rattle.trap_model.specs.Trap.{TrapValue, place_text, place_named, junction_named};
 
 use crate::trap::Trap;
 use itoa::Buffer;
-use qc_base::{JunctionId, NoMemory, PlaceId};
+use qc_base::{JunctionId, NoMemory, PlaceId, split_once};
 
 // The slot of a segment whose number is written so. A segment has few slots.
 fn slot_written(text: &[u8], slots: u32) -> Option<u32>
@@ -18,19 +18,6 @@ fn slot_written(text: &[u8], slots: u32) -> Option<u32>
     for k in 0..slots {
         let mut buffer = Buffer::new();
         if buffer.format(k).as_bytes() == text {
-            return Some(k);
-        }
-    }
-    None
-}
-
-// Where the first dot is.
-fn dot_in(text: &[u8]) -> Option<usize>
-    ensures { MatchOption result (has_dot text.now ≡ false)
-        (λ k. (k < length text.now) × (slice_index text.now k ≡ 46) × (has_dot (take k text.now) ≡ false)) }
-{
-    for (k, byte) in text.iter().enumerate() {
-        if *byte == b'.' {
             return Some(k);
         }
     }
@@ -53,16 +40,10 @@ impl Trap {
         ensures { MatchOption result (IsNoSlotText self.now text.now)
             (λ place. IsSlotText self.now place.0 text.now) }
     {
-        let Some(dot) = dot_in(text) else {
-            return None;
-        };
-        let Some(segment) = self.parts.segment_named(&text[..dot]) else {
-            return None;
-        };
-        let slots = self.parts.segments[segment].slots;
-        let Some(index) = slot_written(&text[dot + 1..], slots) else {
-            return None;
-        };
+        let _parts = &self.parts;
+        let (name, number) = split_once(text, b'.')?;
+        let segment = self.parts.segment_named(name)?;
+        let index = slot_written(number, self.parts.segments[segment].slots)?;
         Some(PlaceId(self.firsts[segment] + index))
     }
 
@@ -70,10 +51,8 @@ impl Trap {
     pub fn junction_named(&self, text: &[u8]) -> Option<JunctionId>
         ensures { option_map (λ junction. junction.0) result ≡ junction_named self.now text.now }
     {
-        match self.parts.junction_named(text) {
-            Some(junction) => Some(JunctionId(junction as u32)),
-            None => None,
-        }
+        let junction = self.parts.junction_named(text)?;
+        Some(JunctionId(junction as u32))
     }
 
     /// Writes the place after what `out` has: a zone's name, or `s.k` for slot k of segment `s`.

@@ -8,7 +8,7 @@ ghost use Rattle.trap_model.specs.Build.{same_port, is_taken};
 use crate::channel::same_end;
 use qc_base::End;
 
-/// What the name of an end stands for. Parts go by their numbers in file order.
+/// What the name of an end means. Parts go by their numbers in file order.
 #[derive(Clone, Copy, Debug, PartialEq, Eq)]
 pub enum Port {
     Zone(usize, End),

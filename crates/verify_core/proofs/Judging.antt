@@ -1,5 +1,5 @@
 -- A text is judged in one way.
-use Rattle.std.proofs.Common.{◌≡◌, ℕ, ◌+◌, ◌≤◌, ◌<◌, List, Ok, Err, refl, sym, ap, ◌∙◌, subst, inl, inr, arith, [], ◌∷◌, ◌++◌, length, length-append}
+use Rattle.std.proofs.Common.{◌≡◌, ℕ, ◌+◌, ◌≤◌, ◌<◌, List, Ok, Err, sym, ap, ◌∙◌, subst, inl, inr, arith, [], ◌∷◌, ◌++◌, length, length-append}
 use Rattle.std.specs.Prelude.{Result, codes, decimal}
 use Rattle.std.specs.List.{flat_map}
 use Rattle.std.proofs.lemmas.Bool.{cases_lt}

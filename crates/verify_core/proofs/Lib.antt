@@ -1,1 +1,10 @@
 pub mod Judging
+pub mod Certificates
+pub mod Contents
+pub mod Heads
+pub mod Verdicts
+pub mod Checking
+pub mod Fronts
+pub mod Answering
+pub mod Minimums
+pub mod Whole

@@ -17,23 +17,28 @@ use Rattle.verify_core.specs.declared.fault.CheckFault.{CheckFault}
 use Rattle.verify_core.specs.declared.fault.CheckFault.TheVariants.{Text, Illegal, NoMemory}
 
 -- the bytes are the text of this placement and these steps, and of no others
-pub record IsTextOf (trap : TrapValue) (circuit : CircuitValue) (bytes : List ℕ) (placement : List (List Qubit)) (steps : List (List Action)) : Type 0 where
+pub record IsTextOf (trap : TrapValue) (circuit : CircuitValue) (bytes : List ℕ)
+    (placement : List (List Qubit)) (steps : List (List Action)) : Type 0 where
   pub spells : Spells trap circuit placement steps bytes
-  pub only : (other : List (List Qubit)) (more : List (List Action)) → Spells trap circuit other more bytes → (other ≡ placement) × (more ≡ steps)
+  pub only : (other : List (List Qubit)) (more : List (List Action))
+      → Spells trap circuit other more bytes → (other ≡ placement) × (more ≡ steps)
 
 -- the bytes are the text of a schedule that plays from its placement
-pub record IsLegalText (trap : TrapValue) (circuit : CircuitValue) (bytes : List ℕ) (checked : Checked) : Type 0 where
+pub record IsLegalText (trap : TrapValue) (circuit : CircuitValue) (bytes : List ℕ) (checked : Checked)
+    : Type 0 where
   pub text : IsTextOf trap circuit bytes checked.placement checked.schedule
   pub plays : Plays (setting_of trap circuit checked.placement) checked.schedule
 
 -- the bytes are the text of a schedule that has this first fault
-pub record IsIllegalText (trap : TrapValue) (circuit : CircuitValue) (bytes : List ℕ) (fault : PlayFault) : Type 0 where
+pub record IsIllegalText (trap : TrapValue) (circuit : CircuitValue) (bytes : List ℕ) (fault : PlayFault)
+    : Type 0 where
   pub placement : List (List Qubit)
   pub steps : List (List Action)
   pub text : IsTextOf trap circuit bytes placement steps
   pub is : IsFault (setting_of trap circuit placement) steps fault
 
--- what the bytes are: the text of a schedule that plays, no text, or the text of a schedule that does not play
+-- what the bytes are: the text of a schedule that plays, no text, or the text of a schedule that does not
+-- play
 abbrev pub Judges : TrapValue → CircuitValue → List ℕ → Result Checked CheckFault → Type 0
 Judges trap circuit bytes (Ok checked) = IsLegalText trap circuit bytes checked
 Judges trap circuit bytes (Err (Text line)) = IsBadLine trap circuit bytes line

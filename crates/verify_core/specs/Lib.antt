@@ -1,1 +1,5 @@
 pub mod Judging
+pub mod Verifying
+pub mod Faults
+-- for private functions
+pub mod Reading

@@ -19,8 +19,8 @@ pub struct Checked {
     pub schedule: Schedule,
 }
 
-/// Reads a schedule of the circuit on the trap and plays it: the schedule where it is legal, the first bad line of a
-/// text that is none, or the first fault of a schedule that is not legal.
+/// Reads a schedule of the circuit on the trap and plays it: the schedule where it is legal, the first bad line
+/// of a text that is none, or the first fault of a schedule that is not legal.
 pub fn check(
     alloc: Global,
     trap: &Trap,

@@ -1,12 +1,13 @@
-//! Texts of schedules, and how they are judged.
+//! Texts of schedules and certificates, and how they are judged.
 
 ghost use Rattle.std.specs.Prelude.{IsTrue, All, IfOk};
 ghost use Rattle.trap_model.specs.Names.{is_name};
 ghost use Rattle.trap_model.specs.Build.{AreNames};
 
-use crate::{CheckFault, check, one_judgement};
+use crate::{CheckFault, VerifyFault, check, one_judgement, one_verification, verify};
 use circuit_core::{Circuit, Op, Reg};
-use qc_base::{Name, NoMemory, OpId, Qubit};
+use derivation_check::CertFault;
+use qc_base::{MemShelf, Name, NoMemory, OpId, Qubit};
 use schedule_play::PlayFault;
 use std::alloc::Global;
 use std::process::Abort;
@@ -19,7 +20,7 @@ fn zones(alloc: Global) -> Result<Vec<ZonePart>, NoMemory>
 {
     let zone = ZonePart {
         name: Name::from_bytes(alloc, b"A")?,
-        capacity: 4,
+        capacity: 3,
         one: true,
         two: true,
         read: true,
@@ -41,7 +42,7 @@ fn no_junctions(alloc: Global) -> Vec<Name>
     Vec::new(alloc)
 }
 
-/// One zone with room for four ions.
+/// One zone with room for three ions.
 fn one_zone(alloc: Global) -> Result<Trap, Fail> {
     let parts = TrapParts {
         zones: zones(alloc)?,
@@ -70,6 +71,28 @@ fn ordered(alloc: Global) -> Result<Circuit, NoMemory> {
     let mut qregs = Vec::new(alloc);
     qregs.push(Reg { name, size: 2 })?;
     Ok(Circuit::new(qregs, Vec::new(alloc), ops))
+}
+
+/// One operation on a pair of qubits.
+fn single(alloc: Global) -> Result<Circuit, NoMemory> {
+    let mut ops = Vec::new(alloc);
+    ops.push(Op::Cx {
+        control: Qubit(0),
+        target: Qubit(1),
+        cond: None,
+    })?;
+    let name = Name::from_bytes(alloc, b"q")?;
+    let mut qregs = Vec::new(alloc);
+    qregs.push(Reg { name, size: 2 })?;
+    Ok(Circuit::new(qregs, Vec::new(alloc), ops))
+}
+
+/// A pair of qubits and no operation.
+fn idle(alloc: Global) -> Result<Circuit, NoMemory> {
+    let name = Name::from_bytes(alloc, b"q")?;
+    let mut qregs = Vec::new(alloc);
+    qregs.push(Reg { name, size: 2 })?;
+    Ok(Circuit::new(qregs, Vec::new(alloc), Vec::new(alloc)))
 }
 
 /// A text with this body.
@@ -145,4 +168,74 @@ fn schedules_that_are_not_legal(rt: HostRuntime) -> Result<(), Fail> {
         ),
     ];
     faults(&rt, rt.alloc(), &rows)
+}
+
+/// What is answered of the schedule with this body, and of a certificate with these lines after its first.
+fn verified(
+    alloc: Global,
+    circuit: &Circuit,
+    body: &[u8],
+    lines: &[u8],
+    fails: Vec<u64>,
+) -> Result<Result<u32, VerifyFault>, Fail> {
+    let trap = one_zone(alloc)?;
+    let text = with_body(alloc, body)?;
+    let mut cert = Vec::from_slice(alloc, b"qccd certificate 1\n")?;
+    cert.extend_from_slice(lines)?;
+    let mut shelf = MemShelf::new(alloc, fails);
+    shelf.add("c", &cert)?;
+    one_verification();
+    Ok(verify(alloc, &trap, circuit, &text, &mut shelf, "c"))
+}
+
+#[test]
+fn one_operation_takes_a_step(rt: HostRuntime) -> Result<(), Fail> {
+    let alloc = rt.alloc();
+    let circuit = single(alloc)?;
+    let body = b"steps 1\nstep 1\nop A 0 ions 0 1 : CX q[0],q[1];\nend\n";
+    let rows: [(&[u8], Result<u32, VerifyFault>); 5] = [
+        (b"encoding 1\nrefutes 0\n6 -5 0 5 4 0\n", Ok(1)),
+        (
+            b"encoding 1\nrefutes 0\n6 5 0 5 4 0\n",
+            Err(VerifyFault::Cert(CertFault::Bad { n: 4 })),
+        ),
+        (
+            b"encoding 1\nrefutes 0\n",
+            Err(VerifyFault::Cert(CertFault::NotRefuting)),
+        ),
+        (
+            b"encoding 1\nrefutes 1\n6 -5 0 5 4 0\n",
+            Err(VerifyFault::Cert(CertFault::NotRefuting)),
+        ),
+        (
+            b"encoding 1\nrefutes 0\n6 -5 0 5 4 0",
+            Err(VerifyFault::Cert(CertFault::Line { n: 4 })),
+        ),
+    ];
+    for (lines, answer) in &rows {
+        assert!(rt; verified(alloc, &circuit, body, lines, Vec::new(alloc))? == *answer);
+    }
+    let lines = b"encoding 1\nrefutes 0\n6 -5 0 5 4 0\n";
+    let fails = vec![in alloc; 1]?;
+    assert!(rt; verified(alloc, &circuit, body, lines, fails)? == Err(VerifyFault::Failed));
+    Ok(())
+}
+
+#[test]
+fn no_operation_takes_no_step(rt: HostRuntime) -> Result<(), Fail> {
+    let alloc = rt.alloc();
+    let circuit = idle(alloc)?;
+    let rows: [(&[u8], Result<u32, VerifyFault>); 2] = [
+        (b"encoding 2\nrefutes nothing\n", Ok(0)),
+        (
+            b"encoding 2\nrefutes nothing\n\n",
+            Err(VerifyFault::Cert(CertFault::Line { n: 4 })),
+        ),
+    ];
+    for (lines, answer) in &rows {
+        assert!(rt;
+            verified(alloc, &circuit, b"steps 0\nend\n", lines, Vec::new(alloc))? == *answer
+        );
+    }
+    Ok(())
 }

@@ -5,7 +5,7 @@ use Rattle.std.proofs.lemmas.Bool.Decides.{eqb_tells}
 use Rattle.std.proofs.Math.Seq.{take-append_seam}
 use Rattle.std.specs.Option.{IfSome}
 use Rattle.std.proofs.lemmas.List.{get_or-set_same, get_or-set_other, length-append, append_assoc}
-use Rattle.watch_lists.specs.Chains.{Chained, StandOnce, IsIn, without, Follows, count_in, Leads, AreChains, lists_in}
+use Rattle.watch_lists.specs.Chains.{Chained, OccurOnce, IsIn, without, Follows, count_in, Leads, AreChains, lists_in}
 use Rattle.watch_lists.proofs.Leading.{around, leads_same, in-right, in-middle, leads_below, leads_at, leads_small, not_before, not_after, without_middle, count_set, count_padded, lists_are, rows_added, links_added, first_out, after_out, put}
 
 abbrev pub Kept : List (Option ℕ) → List (Option ℕ) → Type 0
@@ -144,18 +144,18 @@ one_place S h xs l us vs ws bs c e d =
     (sym (take-append_seam us (l ∷ vs)) ∙ ap (take (length us)) (sym e ∙ d) ∙ ap (λ n. take n (ws ++ l ∷ bs)) long ∙ take-append_seam ws (l ∷ bs), ap (drop 1) rest)
 
 module _ (H S : List (Option ℕ)) (k : Kept H S) where
-  once_kept : StandOnce (seen H S)
+  once_kept : OccurOnce (seen H S)
   once_kept = record {
     below = λ l at a. leads_below S (get_or H at None) (get_or (lists_in H S) at []) l (k.0.leads at) a;
     apart = λ l at other a b. k.0.apart at other l a b;
     once = λ l at us vs ws bs e d. one_place S (get_or H at None) (get_or (lists_in H S) at []) l us vs ws bs (k.0.leads at) e d;
   }
 
-  pub once_seen : (now : Chained) → seen H S ≡ now → StandOnce now
-  once_seen now v = subst StandOnce v once_kept
+  pub once_seen : (now : Chained) → seen H S ≡ now → OccurOnce now
+  once_seen now v = subst OccurOnce v once_kept
 
 -- ---- what is known of lists of which no link occurs twice
-module _ (now : Chained) (o : StandOnce now) where
+module _ (now : Chained) (o : OccurOnce now) where
   pub less : (at l : ℕ) (us vs : List ℕ) → get_or now.lists at [] ≡ us ++ l ∷ vs → without l (get_or now.lists at []) ≡ us ++ vs
   less at l us vs e = ap (without l) e ∙ without_middle l us vs
       (λ a. let s = around l us a in

@@ -52,7 +52,7 @@ abbrev pub lists_in : List (Option ℕ) → List (Option ℕ) → List (List ℕ
 lists_in heads followers = map (follow followers (length followers)) heads
 
 -- no link is in two places, and each is one of the links
-pub record StandOnce (chains : Chained) : Type 0 where
+pub record OccurOnce (chains : Chained) : Type 0 where
   pub below : (link at : ℕ) → IsIn link (slice_index_or chains.lists at []) → link < chains.links
   pub apart : (link at other : ℕ) →
       IsIn link (slice_index_or chains.lists at []) → IsIn link (slice_index_or chains.lists other [])

@@ -58,27 +58,27 @@ with_clause a b watched =
     put_first b (2 * clause + 1) (put_first a (2 * clause) counted)
 
 -- the link is in the literal's list, after those in front and before those at the back
-abbrev pub Stands : Watched → ℕ → Literal → List ℕ → List ℕ → Type 0
-Stands watched link literal front back =
+abbrev pub OccursBetween : Watched → ℕ → Literal → List ℕ → List ℕ → Type 0
+OccursBetween watched link literal front back =
     IsAdded watched literal × (list_of watched literal ≡ front ++ link ∷ back)
 
 -- the link is in some literal's list
-abbrev pub IsSomewhere : Watched → ℕ → Type 0
-IsSomewhere watched link =
-    (literal : Literal) × ((front : List ℕ) × ((back : List ℕ) × Stands watched link literal front back))
+abbrev pub IsListed : Watched → ℕ → Type 0
+IsListed watched link =
+    (literal : Literal) × ((front : List ℕ) × ((back : List ℕ) × OccursBetween watched link literal front back))
 
 -- in whichever list the link is, this is what comes after it
 abbrev pub IsNext : Watched → ℕ → Option ℕ → Type 0
 IsNext watched link next = (literal : Literal) (front back : List ℕ) →
-    Stands watched link literal front back → next ≡ slice_get back 0
+    OccursBetween watched link literal front back → next ≡ slice_get back 0
 
 -- each link of a clause is in one list, at one place, and no other link is in any
 pub record EachLinkOnce (watched : Watched) : Type 0 where
-  pub stands : (link : ℕ) → link < 2 * watched.clauses → IsSomewhere watched link
+  pub listed : (link : ℕ) → link < 2 * watched.clauses → IsListed watched link
   pub of_clause : (link : ℕ) (literal : Literal) (front back : List ℕ) →
-      Stands watched link literal front back → link < 2 * watched.clauses
+      OccursBetween watched link literal front back → link < 2 * watched.clauses
   pub once : (link : ℕ) (literal other : Literal) (front back start rest : List ℕ) →
-      Stands watched link literal front back → Stands watched link other start rest
+      OccursBetween watched link literal front back → OccursBetween watched link other start rest
       → (literal ≡ other) × (front ≡ start) × (back ≡ rest)
 
 -- ---- working notions of private functions

@@ -2,7 +2,7 @@
 
 ghost use Rattle.std.specs.Prelude.{◌≡◌, ℕ, ◌+◌, ◌^◌, ◌<◌, ◌≤◌, ◌++◌, ◌∷◌, [], List, Option, length, replicate, slice_get, slice_set, slice_index_or, OnOk, OnErr};
 ghost use Rattle.std.specs.Option.{IfSome};
-ghost use Rattle.watch_lists.specs.Chains.{Chained, AreChains, Follows, IsIn, StandOnce, count_in, lists_in, without};
+ghost use Rattle.watch_lists.specs.Chains.{Chained, AreChains, Follows, IsIn, OccurOnce, count_in, lists_in, without};
 
 use crate::links::Links;
 use qc_base::NoMemory;
@@ -38,8 +38,8 @@ impl Chains {
 
     /// No link is in two places, and each is one of the links. This holds of all chains: a caller has it by the
     /// call.
-    pub(crate) fn stand_once(&self)
-        ensures { StandOnce self.now }
+    pub(crate) fn occur_once(&self)
+        ensures { OccurOnce self.now }
     {
         let _heads = &self.heads;
     }

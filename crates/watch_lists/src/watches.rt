@@ -4,7 +4,7 @@ ghost use Rattle.std.specs.Prelude.{◌≡◌, ◌≢◌, ℕ, ◌+◌, ◌*◌,
 ghost use Rattle.std.specs.Option.{IfSome};
 ghost use Rattle.sat_base.specs.Literal.{Literal};
 ghost use Rattle.watch_lists.specs.Chains.{Follows};
-ghost use Rattle.watch_lists.specs.Watched.{Watched, IsAdded, IsComplete, IsNext, IsSomewhere, EachLinkOnce, index_of, list_of, no_watches, with_vars, with_clause, put_first, take_out, watched_of};
+ghost use Rattle.watch_lists.specs.Watched.{Watched, IsAdded, IsComplete, IsNext, IsListed, EachLinkOnce, index_of, list_of, no_watches, with_vars, with_clause, put_first, take_out, watched_of};
 
 use crate::chains::Chains;
 use qc_base::NoMemory;
@@ -83,7 +83,7 @@ impl Watches {
     /// The link that comes after a link in its list. It takes no memory.
     pub fn next(&self, link: u64) -> Option<u64>
         requires { link < 2 * self.now.clauses }
-        ensures stands { IsSomewhere self.now link }
+        ensures listed { IsListed self.now link }
         ensures next { IsNext self.now link result }
         ensures below { IfSome result (λ follower. follower < 2 * self.now.clauses) }
     {
@@ -115,7 +115,7 @@ impl Watches {
         ensures lists { length self.now.lists ≡ 2 * self.now.vars }
         ensures links { EachLinkOnce self.now }
     {
-        self.chains.stand_once();
+        self.chains.occur_once();
     }
 }
 

@@ -26,7 +26,7 @@ returns-then-ne c = λ zone together.
 
 pub able-requires : goal.able-requires
 able-requires c =
-    let there = (c.requires.traffic.homes.stands c.job-job.result.first.0 (job_in_homes c.args.map.now c.args.op.0 c.job-job.result (length c.args.traffic.now.homes.items) c.requires.map c.job-job.ensures c.requires.traffic.len).0).there in
+    let there = (c.requires.traffic.homes.present c.job-job.result.first.0 (job_in_homes c.args.map.now c.args.op.0 c.job-job.result (length c.args.traffic.now.homes.items) c.requires.map c.job-job.ensures c.requires.traffic.len).0).there in
     omega (arith, there, ap (λ (trap : TrapValue). length trap.zones) c.trap.ensures, c.home-zone.ensures)
 
 pub returns-then-not-able : goal.returns-then-not-able

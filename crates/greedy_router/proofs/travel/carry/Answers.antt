@@ -13,7 +13,7 @@ pass-requires-clause-there c =
 pub pass-requires-clause-free : goal.pass-requires-clause-free
 pass-requires-clause-free c =
     goes_through c.args.setting.now c.args.played.now c.loop-number.played c.args.distances.now c.args.ion.0 c.args.from.0 c.loop-number.place.0 c.in-Some.number c.requires.trap c.requires.played c.requires.calm
-    c.requires.stands c.requires.free c.requires.distances (sym c.in-Some.ensures) c.loop-number.invariant.carries
+    c.requires.present c.requires.free c.requires.distances (sym c.in-Some.ensures) c.loop-number.invariant.carries
 
 pub bounds-channels-number : goal.bounds-channels-number
 bounds-channels-number c =

@@ -1,13 +1,13 @@
-use Rattle.std.proofs.Common.{subst, sym, Err, Some, refl}
+use Rattle.std.proofs.Common.{subst, sym, Err, Some, None, refl}
 use Rattle.request_words.specs.declared.file.File.TheVariants as files
 use Rattle.request_words.specs.Request.{named}
 use Rattle.qccd.specs.declared.command.Refusal.{Refusal}
-use Rattle.qccd.specs.declared.ending.Ending.{Ending}
-use Rattle.qccd.specs.Loading.{CountsAll, two_names}
-use Rattle.qccd.specs.Preparing.{as_work}
+use Rattle.run_stages.specs.declared.ending.Ending.{Ending}
+use Rattle.run_stages.specs.Loading.{CountsAll, two_names}
+use Rattle.run_stages.specs.Judging.{as_work}
 use Rattle.qccd.proofs.Prepared.{check_ok, check_late, check_early, CheckPrepared}
-use Rattle.qccd.proofs.Reading.{counts_with, counts_as, counts_after, no_fault}
-use Rattle.qccd.proofs.Named.{two_of_check}
+use Rattle.run_stages.proofs.Reading.{counts_with, counts_as, counts_after, no_fault}
+use Rattle.run_stages.proofs.Named.{two_of_check}
 use Rattle.qccd.proofs.command.checked.Goals as goal
 
 pub returns-in-Ok-judged_file-clause-prepared : goal.returns-in-Ok-judged_file-clause-prepared
@@ -23,7 +23,7 @@ returns-in-Err-judged_file-clause-prepared g c =
 
 pub returns-in-Err-judged_file-clause-counts : goal.returns-in-Err-judged_file-clause-counts
 returns-in-Err-judged_file-clause-counts g c =
-    let names = named c.args.circuit.now c.args.trap.now (Some c.args.schedule.now) in
+    let names = named c.args.circuit.now c.args.trap.now (Some c.args.schedule.now) None in
     let same = c.in-Ok.ensures.counts.stays (λ file. no_fault c.in-Ok.inputs file) in
     subst (λ (r : Refusal). CountsAll {X = Ending} names (g.S.Shelf.facts c.args.shelf.now) (g.S.Shelf.facts c.judged_file.new.shelf) (Err r.answer)) (sym c.late.ensures)
     (counts_after {X = Ending} {Y = Ending} names (g.S.Shelf.facts c.args.shelf.now) (g.S.Shelf.facts c.load_inputs.new.shelf) (g.S.Shelf.facts c.judged_file.new.shelf) c.in-Err-judged_file.answer same
@@ -36,6 +36,6 @@ returns-in-Err-clause-prepared g c =
 
 pub returns-in-Err-clause-counts : goal.returns-in-Err-clause-counts
 returns-in-Err-clause-counts g c =
-    subst (λ (r : Refusal). CountsAll {X = Ending} (named c.args.circuit.now c.args.trap.now (Some c.args.schedule.now)) (g.S.Shelf.facts c.args.shelf.now) (g.S.Shelf.facts c.load_inputs.new.shelf) (Err r.answer)) (sym c.early.ensures)
-    (counts_with (two_names c.args.circuit.now c.args.trap.now) (named c.args.circuit.now c.args.trap.now (Some c.args.schedule.now)) (g.S.Shelf.facts c.args.shelf.now) (g.S.Shelf.facts c.load_inputs.new.shelf) c.in-Err.answer
+    subst (λ (r : Refusal). CountsAll {X = Ending} (named c.args.circuit.now c.args.trap.now (Some c.args.schedule.now) None) (g.S.Shelf.facts c.args.shelf.now) (g.S.Shelf.facts c.load_inputs.new.shelf) (Err r.answer)) (sym c.early.ensures)
+    (counts_with (two_names c.args.circuit.now c.args.trap.now) (named c.args.circuit.now c.args.trap.now (Some c.args.schedule.now) None) (g.S.Shelf.facts c.args.shelf.now) (g.S.Shelf.facts c.load_inputs.new.shelf) c.in-Err.answer
     (two_of_check c.args.circuit.now c.args.trap.now c.args.schedule.now) c.in-Err.ensures.counts)

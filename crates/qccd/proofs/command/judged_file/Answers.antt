@@ -1,8 +1,8 @@
 use Rattle.request_words.specs.declared.file.File.TheVariants as files
-use Rattle.qccd.specs.Stages.{Is}
-use Rattle.qccd.specs.Prepare.{bytes_of, JudgedIn}
-use Rattle.qccd.specs.Preparing.{as_work}
-use Rattle.qccd.proofs.Stages.{finishes_err}
+use Rattle.run_stages.specs.Stages.{Is}
+use Rattle.run_stages.specs.Prepare.{bytes_of, JudgedIn}
+use Rattle.run_stages.specs.Judging.{as_work}
+use Rattle.run_stages.proofs.Stages.{finishes_err}
 use Rattle.qccd.proofs.command.judged_file.Goals as goal
 
 pub returns-in-Err-clause-judges : goal.returns-in-Err-clause-judges

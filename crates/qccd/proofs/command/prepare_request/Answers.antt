@@ -1,24 +1,24 @@
-use Rattle.std.proofs.Common.{Option, Some, subst, sym, refl}
+use Rattle.std.proofs.Common.{Option, subst, sym}
 use Rattle.request_words.specs.declared.request.Exact.{Exact}
 use Rattle.request_words.specs.declared.request.Request.{Request}
 use Rattle.request_words.specs.declared.request.Request.TheVariants as requests
 use Rattle.request_words.specs.Request.{file_of}
 use Rattle.request_words.specs.Seen.{asked_of}
-use Rattle.qccd.specs.Prepare.{Comes}
-use Rattle.qccd.specs.declared.ending.Ending.{Ending}
-use Rattle.qccd.specs.Loading.{CountsAll}
+use Rattle.run_stages.specs.Prepare.{Comes}
+use Rattle.run_stages.specs.declared.ending.Ending.{Ending}
+use Rattle.run_stages.specs.Loading.{CountsAll}
 use Rattle.qccd.specs.Preparing.{Prepared, answer_in}
-use Rattle.qccd.proofs.Prepared.{unbuilt, load_prepared}
+use Rattle.qccd.proofs.Prepared.{load_prepared}
 use Rattle.qccd.proofs.command.prepare_request.Goals as goal
 
 pub returns-in-Some-clause-prepared : goal.returns-in-Some-clause-prepared
 returns-in-Some-clause-prepared g c =
-    let facts = g.S.Shelf.facts c.args.shelf.now in
-    let request : Request = requests.Compile c.in-Compile.circuit c.in-Compile.trap c.in-Compile.rule (Some c.in-Some.field-0) in
-    subst (λ (r : Request). Prepared (file_of (asked_of r)) (λ found. Comes found (asked_of r)) facts facts c.unbuilt.result) (sym c.in-Compile.is)
+    let old = g.S.Shelf.facts c.args.shelf.now in
+    let new = g.S.Shelf.facts c.fewest.new.shelf in
+    subst (λ (r : Request). Prepared (file_of (asked_of r)) (λ found. Comes found (asked_of r)) old new c.fewest.result) (sym c.in-Compile.is)
     (subst (λ (e : Option Exact). Prepared (file_of (asked_of (requests.Compile c.in-Compile.circuit c.in-Compile.trap c.in-Compile.rule e)))
-    (λ found. Comes found (asked_of (requests.Compile c.in-Compile.circuit c.in-Compile.trap c.in-Compile.rule e))) facts facts c.unbuilt.result) (sym c.in-Some.is)
-    (unbuilt facts facts (asked_of request) c.unbuilt.result c.unbuilt.ensures (λ found. refl)))
+    (λ found. Comes found (asked_of (requests.Compile c.in-Compile.circuit c.in-Compile.trap c.in-Compile.rule e))) old new c.fewest.result) (sym c.in-Some.is)
+    c.fewest.ensures.prepared)
 
 pub returns-in-Check-clause-prepared : goal.returns-in-Check-clause-prepared
 returns-in-Check-clause-prepared g c =
@@ -26,10 +26,11 @@ returns-in-Check-clause-prepared g c =
 
 pub returns-in-Verify-clause-prepared : goal.returns-in-Verify-clause-prepared
 returns-in-Verify-clause-prepared g c =
-    let facts = g.S.Shelf.facts c.args.shelf.now in
-    let request : Request = requests.Verify c.in-Verify.circuit c.in-Verify.trap c.in-Verify.schedule c.in-Verify.cert in
-    subst (λ (r : Request). Prepared (file_of (asked_of r)) (λ found. Comes found (asked_of r)) facts facts c.unbuilt-in-Verify.result) (sym c.in-Verify.is)
-    (unbuilt facts facts (asked_of request) c.unbuilt-in-Verify.result c.unbuilt-in-Verify.ensures (λ found. refl))
+    subst (λ (r : Request). Prepared (file_of (asked_of r)) (λ found. Comes found (asked_of r)) (g.S.Shelf.facts c.args.shelf.now) (g.S.Shelf.facts c.verified.new.shelf) c.verified.result) (sym c.in-Verify.is) c.verified.ensures.prepared
+
+pub returns-in-Verify-clause-counts : goal.returns-in-Verify-clause-counts
+returns-in-Verify-clause-counts g c =
+    subst (λ (r : Request). CountsAll {X = Ending} (file_of (asked_of r)) (g.S.Shelf.facts c.args.shelf.now) (g.S.Shelf.facts c.verified.new.shelf) (answer_in c.verified.result)) (sym c.in-Verify.is) c.verified.ensures.counts
 
 pub returns-in-Report-clause-prepared : goal.returns-in-Report-clause-prepared
 returns-in-Report-clause-prepared g c =

@@ -1,5 +1,5 @@
-use Rattle.qccd.proofs.Settled.{prepares-one}
+use Rattle.qccd.proofs.OneOutcome.{prepares-one}
 use Rattle.qccd.proofs.laws.one_outcome.Goals as goal
 
 pub returns : goal.returns
-returns c = prepares-one
+returns c = prepares-one c.one_verification.ensures

@@ -1,7 +1,7 @@
 use Rattle.std.proofs.Common.{◌≡◌, length, take}
 use Rattle.circuit_core.specs.Circuit.{qubit_count}
 use Rattle.step_rules.specs.Placement.{reading_order}
-use Rattle.schedule_text.specs.Standing.{AreMarked, AreIn}
+use Rattle.schedule_text.specs.ZoneLists.{AreMarked, AreIn}
 use Rattle.schedule_text.proofs.open.are_apart.Given as goal
 
 -- the lists so far have room, and their qubits are marked

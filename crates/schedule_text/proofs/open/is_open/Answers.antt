@@ -10,8 +10,8 @@ pub room-left-requires : goal.room-left-requires
 room-left-requires c =
     omega (arith, room_left c.args.trap.now c.args.lists.now c.zones-zones.result.now c.zones-zones.ensures.zones, small_room c.args.trap.now (length c.args.lists.now) c.requires.trap)
 
-pub standing-requires : goal.standing-requires
-standing-requires c =
+pub placed_count-requires : goal.placed_count-requires
+placed_count-requires c =
     let apart = are_apart c.args.trap.now c.args.lists.now c.zones-zones.result.now c.in_ok-are_apart.field-0 c.zones-zones.ensures.zones c.in_ok-are_apart.ensures c.if-not-branch.false in
     omega (arith, small_order c.args.trap.now c.args.lists.now c.requires.trap apart)
 
@@ -21,7 +21,7 @@ overflow_add-result c =
     omega (
       arith,
       small_order c.args.trap.now c.args.lists.now c.requires.trap apart,
-      c.standing.ensures,
+      c.placed_count.ensures,
       c.room-left.ensures,
       room_left c.args.trap.now c.args.lists.now c.zones-zones.result.now c.zones-zones.ensures.zones,
       small_room c.args.trap.now (length c.args.lists.now) c.requires.trap,
@@ -30,5 +30,5 @@ overflow_add-result c =
 pub returns : goal.returns
 returns c =
     let apart = are_apart c.args.trap.now c.args.lists.now c.zones-zones.result.now c.in_ok-are_apart.field-0 c.zones-zones.ensures.zones c.in_ok-are_apart.ensures c.if-not-branch.false in
-    apart_opens c.args.trap.now c.args.circuit.now c.args.lists.now c.qubits.result c.room-left.result c.standing.result c.requires.few c.requires.qubits apart c.qubits.ensures c.standing.ensures
+    apart_opens c.args.trap.now c.args.circuit.now c.args.lists.now c.qubits.result c.room-left.result c.placed_count.result c.requires.few c.requires.qubits apart c.qubits.ensures c.placed_count.ensures
     (c.room-left.ensures ∙ room_left c.args.trap.now c.args.lists.now c.zones-zones.result.now c.zones-zones.ensures.zones)

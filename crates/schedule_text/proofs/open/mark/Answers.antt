@@ -2,7 +2,7 @@ use Rattle.std.proofs.Common.{ℕ, ◌<◌, ◌++◌, List, length, get_or, take
 use Rattle.std.proofs.lemmas.List.{length-set, take_all}
 use Rattle.qc_base.specs.declared.ids.Qubit.{Qubit}
 use Rattle.step_rules.proofs.Reading.{flag_says}
-use Rattle.schedule_text.specs.Standing.{AreMarked}
+use Rattle.schedule_text.specs.ZoneLists.{AreMarked}
 use Rattle.schedule_text.proofs.Opening.{marked_more, stands_twice}
 use Rattle.schedule_text.proofs.open.mark.Goals as goal
 

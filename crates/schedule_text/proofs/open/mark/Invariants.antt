@@ -1,6 +1,6 @@
 use Rattle.std.proofs.Common.{◌≡◌, ◌++◌, List, length, take}
 use Rattle.qc_base.specs.declared.ids.Qubit.{Qubit}
-use Rattle.schedule_text.specs.Standing.{AreMarked}
+use Rattle.schedule_text.specs.ZoneLists.{AreMarked}
 use Rattle.schedule_text.proofs.open.mark.Given as goal
 
 -- all so far are marked, and none of them was before

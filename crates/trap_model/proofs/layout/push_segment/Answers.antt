@@ -6,4 +6,4 @@ use Rattle.trap_model.proofs.layout.push_segment.Goals as goal
 pub loop-k-preserved : goal.loop-k-preserved
 loop-k-preserved c =
     let more = after_pieces_more move_channels c.args.channels.now.items c.loop-k.channels.items c.args.place c.loop-k.k c.loop-k.invariant in
-    rw (c.in_ok-push-2.ensures.items, c.in_ok-push.ensures.items, c.a_move.ensures, c.a_move-in-loop-k.ensures, append_assoc) more
+    rw (c.in_ok-push-2.ensures.items, c.in_ok-push.ensures.items, c.channel.ensures, c.channel-in-loop-k.ensures, append_assoc) more

@@ -15,15 +15,15 @@ pub returns-clause-leads : goal.returns-clause-leads
 returns-clause-leads c =
     rw (c.cross_number.ensures, c.as_slice.ensures.value, c.self.invariant.all_channels, ← c.self.view_is) (cross_leads (lists c.self.inside.parts) c.args.junction.0 c.args.from.0 c.args.to.0)
 
-pub returns-in_default-clause-number : goal.returns-in_default-clause-number
-returns-in_default-clause-number c =
+pub returns-in_err-passage-clause-number : goal.returns-in_err-passage-clause-number
+returns-in_err-passage-clause-number c =
     let trap = lists c.self.inside.parts in
-    let past : length c.self.inside.parts.junctions.items ≤ c.args.junction.0 = omega (arith, c.in_default.ensures.lookup.3, c.deref.ensures.len, c.self.inside.passages.ok.0, c.self.invariant.of_junctions.count) in
+    let past : length c.self.inside.parts.junctions.items ≤ c.args.junction.0 = omega (arith, c.in_err-passage.ensures.lookup.3, c.deref.ensures.len, c.self.inside.passages.ok.0, c.self.invariant.of_junctions.count) in
     let none = no_cross_channel trap c.args.junction.0 c.args.from.0 c.args.to.0 past in
-    rw (← c.self.view_is) (sym (no_number trap (is_cross c.args.junction.0 c.args.from.0 c.args.to.0) (cross_leads trap c.args.junction.0 c.args.from.0 c.args.to.0 ∙ none)))
+    rw (← c.self.view_is, c.from_residual.ensures) (sym (no_number trap (is_cross c.args.junction.0 c.args.from.0 c.args.to.0) (cross_leads trap c.args.junction.0 c.args.from.0 c.args.to.0 ∙ none)))
 
-pub returns-in_default-clause-leads : goal.returns-in_default-clause-leads
-returns-in_default-clause-leads c =
+pub returns-in_err-passage-clause-leads : goal.returns-in_err-passage-clause-leads
+returns-in_err-passage-clause-leads c =
     let trap = lists c.self.inside.parts in
-    let past : length c.self.inside.parts.junctions.items ≤ c.args.junction.0 = omega (arith, c.in_default.ensures.lookup.3, c.deref.ensures.len, c.self.inside.passages.ok.0, c.self.invariant.of_junctions.count) in
-    rw (← c.self.view_is) (sym (no_cross_channel trap c.args.junction.0 c.args.from.0 c.args.to.0 past))
+    let past : length c.self.inside.parts.junctions.items ≤ c.args.junction.0 = omega (arith, c.in_err-passage.ensures.lookup.3, c.deref.ensures.len, c.self.inside.passages.ok.0, c.self.invariant.of_junctions.count) in
+    rw (← c.self.view_is, c.from_residual.ensures) (sym (no_cross_channel trap c.args.junction.0 c.args.from.0 c.args.to.0 past))

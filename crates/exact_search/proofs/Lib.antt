@@ -1,0 +1,12 @@
+pub mod Ends
+pub mod Certify
+pub mod Freshness
+pub mod Kept
+pub mod Bounds
+pub mod Tasks
+pub mod Adding
+pub mod Deciding
+pub mod Limits
+pub mod Counting
+pub mod Fewer
+pub mod FirstClause

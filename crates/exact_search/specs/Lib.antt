@@ -1,0 +1,4 @@
+pub mod TooLarge
+pub mod Found
+-- for private functions
+pub mod Searching

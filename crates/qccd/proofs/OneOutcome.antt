@@ -1,0 +1,57 @@
+-- Words and files come to one outcome.
+use Rattle.std.proofs.Common.{◌≡◌, List, ℕ, Result, Ok, Err, sym, ◌∙◌, subst}
+use Rattle.std.specs.Option.{ok_or}
+use Rattle.request_words.specs.declared.file.File.TheVariants as files
+use Rattle.request_words.specs.Request.{Asked, verify, request_of}
+use Rattle.run_answers.specs.declared.answer.Answer.{Answer}
+use Rattle.run_answers.specs.declared.answer.Answer.TheVariants as answers
+use Rattle.run_stages.specs.declared.inputs.Inputs.{Inputs}
+use Rattle.run_stages.specs.Work.{Work}
+use Rattle.run_stages.specs.Stages.{GoesOn, Then, Is}
+use Rattle.run_stages.specs.Found.{Found}
+use Rattle.run_stages.specs.Prepare.{bytes_of, InputsOf, VerifiedIn, VerifiedOf, inputs_of, Comes, Prepares}
+use Rattle.run_stages.proofs.Stages.{IsOne, inputs_of-one}
+use Rattle.run_stages.proofs.Outcomes.{fixed-one, comes-one}
+use Rattle.qccd.proofs.Went.{went}
+use Rattle.qccd.proofs.RoundTrip.{trap_right, circuit_right}
+use Rattle.run_stages.proofs.Certified.{AreSound, OneVerification, verified-one}
+
+-- ---- a stage after a first one, of which the value is known
+
+goes_on_one : {X Y : Type 0} (first : Result X Answer → Type 0) (next : X → Result Y Answer → Type 0) (given : Result X Answer) (a b : Result Y Answer) → ((x : X) → first (Ok x) → IsOne (next x))
+    → first given → GoesOn next given a → GoesOn next given b → a ≡ b
+goes_on_one first next (Ok x) a b one is p q = one x is a b p q
+goes_on_one first next (Err answer) a b one is p q = p ∙ sym q
+
+after-one : {X Y : Type 0} (first : Result X Answer → Type 0) (next : X → Result Y Answer → Type 0) → IsOne first → ((x : X) → first (Ok x) → IsOne (next x)) → IsOne (Then first next)
+after-one first next one one_next a b p q =
+    goes_on_one first next p.given a b one_next p.is p.goes_on (subst (λ given. GoesOn next given b) (sym (one p.given q.given p.is q.is)) q.goes_on)
+
+-- ---- a verification
+
+-- the circuit and the trap of files are sound
+made_inputs : (a b : Inputs) → ◌≡◌ {A = Result Inputs Answer} (Ok b) (Ok a) → a ≡ b
+made_inputs a b e = cc
+
+sound_inputs : (found : Found) (inputs : Inputs) → InputsOf found.circuit found.trap (Ok inputs) → AreSound inputs
+sound_inputs found inputs are =
+    let circuit = went _ _ inputs are in
+    let file = went _ _ inputs circuit.goes_on in
+    let same : inputs_of circuit.x file.x ≡ inputs = made_inputs (inputs_of circuit.x file.x) inputs file.goes_on in
+    subst AreSound same ((trap_right found.trap file.x file.is).0, circuit_right found.circuit circuit.x circuit.is)
+
+verify-one : OneVerification → (found : Found) (circuit trap schedule cert : List ℕ) → IsOne (Comes found (verify circuit trap schedule cert))
+verify-one one found circuit trap schedule cert =
+    after-one (InputsOf found.circuit found.trap) (VerifiedOf found.schedule found.certificate) (inputs_of-one found.circuit found.trap)
+    (λ (inputs : Inputs) are. after-one (Is (bytes_of files.Schedule found.schedule)) (VerifiedIn found.certificate inputs) (fixed-one (bytes_of files.Schedule found.schedule))
+    (λ (text : List ℕ) is. verified-one one found.certificate inputs text (sound_inputs found inputs are)))
+
+-- ---- all requests
+
+pub prepares-one : OneVerification → (found : Found) (words : List (List ℕ)) (a b : Result Work Answer)
+    → Prepares found words a → Prepares found words b → a ≡ b
+prepares-one one found words a b =
+    after-one (Is (ok_or (request_of words) answers.Usage)) (Comes found) (fixed-one (ok_or (request_of words) answers.Usage))
+    (λ (asked : Asked) is. comes-one found asked
+    (λ circuit trap schedule cert e. subst (λ (x : Asked). IsOne (Comes found x)) (sym e) (verify-one one found circuit trap schedule cert)))
+    a b

@@ -1,8 +1,0 @@
-use Rattle.request_words.specs.declared.file.File.TheVariants as files
-use Rattle.qccd.specs.Prepare.{TrapIn}
-use Rattle.qccd.proofs.Reading.{loads_err}
-use Rattle.qccd.proofs.loading.load_trap.Goals as goal
-
-pub returns-in-Err-clause-loads : goal.returns-in-Err-clause-loads
-returns-in-Err-clause-loads g c =
-    loads_err (g.S.Shelf.facts c.args.shelf.now) (g.S.Shelf.facts c.load.new.shelf) c.args.name.now files.Trap TrapIn c.in-Err.answer c.in-Err.ensures.loads

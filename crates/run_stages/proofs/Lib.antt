@@ -1,0 +1,10 @@
+pub mod Stages
+pub mod Outcomes
+pub mod Reading
+pub mod Refusals
+pub mod Named
+pub mod LoadRoom
+pub mod Plans
+pub mod Judgements
+pub mod Searches
+pub mod Certified

@@ -1,0 +1,9 @@
+pub mod Work
+pub mod Exact
+pub mod Found
+pub mod Stages
+pub mod Prepare
+pub mod Kinds
+pub mod Putting
+pub mod Loading
+pub mod Judging
