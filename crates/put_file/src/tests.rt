@@ -16,12 +16,15 @@ fn bytes(alloc: Global, count: u64) -> Result<Vec<u8>, AllocError> {
     Ok(bytes)
 }
 
-fn given(number: u64) -> LineId {
-    LineId {
-        derived: false,
-        number,
-    }
-}
+const FIRST: LineId = LineId {
+    derived: false,
+    number: 1,
+};
+
+const SECOND: LineId = LineId {
+    derived: false,
+    number: 2,
+};
 
 #[test]
 fn a_text_longer_than_a_piece_is_put_whole(rt: HostRuntime) -> Result<(), Fail> {
@@ -59,24 +62,22 @@ fn a_put_that_fails_is_answered(rt: HostRuntime) -> Result<(), Fail> {
 }
 
 #[test]
-fn a_certificate_of_two_lines_is_put(rt: HostRuntime) -> Result<(), Fail> {
+fn a_certificate_of_one_line_is_put(rt: HostRuntime) -> Result<(), Fail> {
     let alloc = rt.alloc();
     let mut log = Log::new(alloc);
     let first = log.axiom(&[Lit::new(2, false), Lit::new(1, true)])?;
     let second = log.axiom(&[Lit::new(1, false)])?;
-    let third = log.axiom(&[Lit::new(2, true), Lit::new(3, true)])?;
-    assert_eq!(rt; (first, second, third), (given(1), given(2), given(3)));
-    let line = log.derive(&[given(1), given(2)])?;
-    log.derive(&[given(3), line])?;
+    assert_eq!(rt; (first, second), (FIRST, SECOND));
+    log.derive(&[FIRST, SECOND])?;
     let head = Head {
         encoding: 2,
         bound: Bound::Refutes(0),
     };
-    let put = Put::lines(Certificate::new(alloc, log, head, 3, 2)?);
+    let put = Put::lines(Certificate::new(alloc, log, head, 2, 1)?);
     let mut shelf = MemShelf::new(alloc, Vec::new(alloc));
     shelf.hold("x", 1000)?;
     assert!(rt; put.store(alloc, &mut shelf, "x") == Ok(()));
-    let text = b"qccd certificate 1\nencoding 2\nrefutes 0\n4 -2 0 1 2 0\n5 3 0 3 4 0\n";
+    let text = b"qccd certificate 1\nencoding 2\nrefutes 0\n3 -2 0 1 2 0\n";
     assert!(rt; shelf.content("x") == Some(text.as_slice()));
     Ok(())
 }

@@ -1,4 +1,4 @@
-use Rattle.std.proofs.Common.{◌≡◌, ◌++◌, List, [], drop, length, ℕ, ◌+◌, ◌≤◌, ◌∙◌, sym, ap, arith}
+use Rattle.std.proofs.Common.{◌≡◌, ◌++◌, [], drop, ◌∙◌, sym, arith}
 use Rattle.derivation_log.specs.Pieces.{IsPiece}
 use Rattle.put_file.proofs.Pieces.{next_printed, all_printed, piece_left, piece_within, puts_on, same_on}
 use Rattle.put_file.proofs.putting.put_printed.Goals as goal

@@ -1,4 +1,4 @@
-use Rattle.std.proofs.Common.{arith, ◌≤◌, length}
+use Rattle.std.proofs.Common.{arith, ◌≤◌}
 use Rattle.put_file.proofs.Pieces.{next_bytes, puts_on, same_on}
 use Rattle.put_file.proofs.putting.put_whole.Goals as goal
 

@@ -1,4 +1,4 @@
-use Rattle.std.proofs.Common.{◌≡◌, length, ◌-◌, ◌≤◌, take}
+use Rattle.std.proofs.Common.{length, ◌-◌, ◌≤◌, take}
 use Rattle.qc_base.specs.Shelf.{OnlyPuts, SameCounts}
 use Rattle.put_file.proofs.Pieces.{HasBytes}
 use Rattle.put_file.proofs.putting.put_whole.Given as goal
