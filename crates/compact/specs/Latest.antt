@@ -38,7 +38,8 @@ pub record AreTimes (setting : SettingValue) (actions : List Action) (times : Li
       → IsNextTime setting (take k actions) (take k times) action time
 
 -- the steps of so many first actions
-pub record AreBuilt (setting : SettingValue) (actions : List Action) (times : List ℕ) (steps : List (List Action)) : Type 0 where
+pub record AreBuilt (setting : SettingValue) (actions : List Action) (times : List ℕ)
+    (steps : List (List Action)) : Type 0 where
   pub spread : AreSpread actions times steps
   pub some : (time : ℕ) (step : List Action) → slice_get steps time ≡ Some step → 0 < length step
   pub legal : AreLegal setting (start_of setting.trap setting.placement) steps

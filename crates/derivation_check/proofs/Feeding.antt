@@ -8,7 +8,7 @@ use Rattle.sat_base.specs.Derivation.{clauses_of, AnyRefutes}
 use Rattle.derivation_check.specs.declared.cert_fault.CertFault.{CertFault}
 use Rattle.derivation_check.specs.declared.cert_fault.CertFault.TheVariants.{Line as ALine, Bad, NotRefuting, Endless, NoMemory}
 use Rattle.derivation_check.specs.Faults.{Task, Reads, HasFault, Answers, IsTooLong, HasMalformedLine, HasBadLine, IsRefutation, LeavesOpen, AreLines, HasCutLine}
-use Rattle.derivation_check.specs.Progress.{Progress, Accepts, GoesOn, StandsAt, WasFed, HasLineFault}
+use Rattle.derivation_check.specs.Progress.{Progress, Accepts, HasTaken, IsAfter, WasFed, HasLineFault}
 use Rattle.derivation_check.proofs.Taking.{HasLineFault-more}
 use Rattle.derivation_check.proofs.Accepting.{count_is}
 
@@ -59,18 +59,18 @@ HasFault-more task bytes more NoMemory h = tt
 
 -- ---- a checker that continues
 
-pub goes_on : (task : Task) (bytes : List ℕ) (old : Progress) → old.stopped ≡ None → WasFed task bytes old → GoesOn task bytes old
-goes_on task bytes old is fed = subst (StandsAt task bytes old) is fed
+pub has_taken : (task : Task) (bytes : List ℕ) (old : Progress) → old.stopped ≡ None → WasFed task bytes old → HasTaken task bytes old
+has_taken task bytes old is fed = subst (IsAfter task bytes old) is fed
 
-pub was_fed : (task : Task) (bytes : List ℕ) (now : Progress) → now.stopped ≡ None → GoesOn task bytes now → WasFed task bytes now
-was_fed task bytes now is on = subst (StandsAt task bytes now) (sym is) on
+pub was_fed : (task : Task) (bytes : List ℕ) (now : Progress) → now.stopped ≡ None → HasTaken task bytes now → WasFed task bytes now
+was_fed task bytes now is on = subst (IsAfter task bytes now) (sym is) on
 
 -- it took the piece, within the limit
 pub fed_more : (task : Task) (bytes piece : List ℕ) (old now : Progress) (room : ℕ) → old.stopped ≡ None → WasFed task bytes old
     → ((task : Task) (before : List ℕ) → Accepts task before old → Accepts task (before ++ piece) now)
     → room ≡ old.limit - old.fed → length piece ≤ room → now.fed ≡ old.fed + length piece → now.limit ≡ old.limit → now.stopped ≡ None → WasFed task (bytes ++ piece) now
 fed_more task bytes piece old now room going fed accepts room_is fits fed_is limit_is stopped =
-    let on = goes_on task bytes old going fed in
+    let on = has_taken task bytes old going fed in
     let len : length (bytes ++ piece) ≡ length bytes + length piece = length-append bytes piece in
     was_fed task (bytes ++ piece) now stopped (record {
       accepts = accepts task bytes on.accepts;
@@ -83,25 +83,25 @@ fed_more task bytes piece old now room going fed accepts room_is fits fed_is lim
 pub stops_within : (task : Task) (bytes piece : List ℕ) (old : Progress) (room : ℕ) (fault : CertFault) → old.stopped ≡ None → WasFed task bytes old
     → ((task : Task) (before : List ℕ) → Accepts task before old → HasLineFault task (before ++ piece) fault) → room ≡ old.limit - old.fed → length piece ≤ room → HasFault task (bytes ++ piece) fault
 stops_within task bytes piece old room fault going fed faulty room_is fits =
-    let on = goes_on task bytes old going fed in
+    let on = has_taken task bytes old going fed in
     let within : length (bytes ++ piece) ≤ task.limit = let fed_before = on.fed in let limit = on.limit in let inside = on.within in omega (arith, length-append bytes piece) in
     stops_by task (bytes ++ piece) (bytes ++ piece) fault (take_all task.limit (bytes ++ piece) within) (faulty task bytes on.accepts)
 
-room_of : (task : Task) (bytes : List ℕ) (old : Progress) (room : ℕ) → GoesOn task bytes old → room ≡ old.limit - old.fed → length bytes + room ≡ task.limit
+room_of : (task : Task) (bytes : List ℕ) (old : Progress) (room : ℕ) → HasTaken task bytes old → room ≡ old.limit - old.fed → length bytes + room ≡ task.limit
 room_of task bytes old room on room_is = let fed_before = on.fed in let limit = on.limit in let inside = on.within in omega arith
 
 -- a line that ends within the limit has a fault
 pub stops_before : (task : Task) (bytes piece part : List ℕ) (old : Progress) (room : ℕ) (fault : CertFault) → old.stopped ≡ None → WasFed task bytes old
     → ((task : Task) (before : List ℕ) → Accepts task before old → HasLineFault task (before ++ part) fault) → room ≡ old.limit - old.fed → room ≤ length piece → part ≡ take room piece → HasFault task (bytes ++ piece) fault
 stops_before task bytes piece part old room fault going fed faulty room_is over part_is =
-    let on = goes_on task bytes old going fed in
+    let on = has_taken task bytes old going fed in
     stops_by task (bytes ++ piece) (bytes ++ part) fault (take_past task.limit room bytes piece (room_of task bytes old room on room_is) over ∙ ap (λ (xs : List ℕ). bytes ++ xs) (sym part_is)) (faulty task bytes on.accepts)
 
 -- the limit is past
 pub endless : (task : Task) (bytes piece part : List ℕ) (old now : Progress) (room : ℕ) → old.stopped ≡ None → WasFed task bytes old
     → ((task : Task) (before : List ℕ) → Accepts task before old → Accepts task (before ++ part) now) → room ≡ old.limit - old.fed → room < length piece → part ≡ take room piece → IsTooLong task (bytes ++ piece)
 endless task bytes piece part old now room going fed accepts room_is over part_is =
-    let on = goes_on task bytes old going fed in
+    let on = has_taken task bytes old going fed in
     let a = accepts task bytes on.accepts in
     let room_ends = room_of task bytes old room on room_is in
     let past : take task.limit (bytes ++ piece) ≡ bytes ++ part = take_past task.limit room bytes piece room_ends (omega arith) ∙ ap (λ (xs : List ℕ). bytes ++ xs) (sym part_is) in
@@ -118,19 +118,19 @@ endless task bytes piece part old now room going fed accepts room_is over part_i
 -- a line has no line feed
 pub is_cut : (task : Task) (bytes : List ℕ) (old : Progress) → old.stopped ≡ None → WasFed task bytes old → 1 ≤ length old.pending → HasCutLine task bytes old.place
 is_cut task bytes old going fed some =
-    let on = goes_on task bytes old going fed in
+    let on = has_taken task bytes old going fed in
     record { lines = on.accepts.lines; rest = old.pending; reads = on.accepts.reads; within = on.within; free = on.accepts.free; some = some; is_place = on.accepts.place }
 
 -- all bytes are lines
-pub all_lines : (task : Task) (bytes : List ℕ) (old : Progress) → (on : GoesOn task bytes old) → old.pending ≡ [] → AreLines task bytes on.accepts.lines
+pub all_lines : (task : Task) (bytes : List ℕ) (old : Progress) → (on : HasTaken task bytes old) → old.pending ≡ [] → AreLines task bytes on.accepts.lines
 all_lines task bytes old on none = record { reads = subst (Reads task bytes on.accepts.lines) none on.accepts.reads; within = on.within }
 
-derived_are : (task : Task) (bytes : List ℕ) (old : Progress) → (on : GoesOn task bytes old) → drop old.axioms old.clauses ≡ clauses_of on.accepts.lines
+derived_are : (task : Task) (bytes : List ℕ) (old : Progress) → (on : HasTaken task bytes old) → drop old.axioms old.clauses ≡ clauses_of on.accepts.lines
 derived_are task bytes old on = ap (drop old.axioms) on.accepts.clauses ∙ drop_at task.formula (clauses_of on.accepts.lines) old.axioms (sym on.accepts.axioms)
 
 pub is_refutation : (task : Task) (bytes : List ℕ) (old : Progress) (goal : Literal) (count : ℕ) → old.stopped ≡ None → WasFed task bytes old → old.pending ≡ [] → AnyRefutes goal (drop old.axioms old.clauses) → count ≡ length old.clauses - old.axioms → IsRefutation task bytes goal count
 is_refutation task bytes old goal count going fed none refutes counted =
-    let on = goes_on task bytes old going fed in
+    let on = has_taken task bytes old going fed in
     let all : length old.clauses ≡ length task.formula + length on.accepts.lines = ap length on.accepts.clauses ∙ count_is task on.accepts.lines in
     record {
       lines = on.accepts.lines;
@@ -141,7 +141,7 @@ is_refutation task bytes old goal count going fed none refutes counted =
 
 pub leaves_open : (task : Task) (bytes : List ℕ) (old : Progress) (goal : Literal) → old.stopped ≡ None → WasFed task bytes old → old.pending ≡ [] → (AnyRefutes goal (drop old.axioms old.clauses) → ⊥) → LeavesOpen task bytes goal
 leaves_open task bytes old goal going fed none refutes =
-    let on = goes_on task bytes old going fed in
+    let on = has_taken task bytes old going fed in
     record {
       lines = on.accepts.lines;
       accepted = all_lines task bytes old on none;
@@ -162,7 +162,7 @@ accepts_as task bytes old new clauses axioms place vars pending a = record {
 
 -- a checker that stopped is fed more
 pub fed_again : (task : Task) (bytes more : List ℕ) (old : Progress) (fault : CertFault) → old.stopped ≡ Some fault → WasFed task bytes old → WasFed task (bytes ++ more) old
-fed_again task bytes more old fault is fed = subst (StandsAt task (bytes ++ more) old) (sym is) (HasFault-more task bytes more fault (subst (StandsAt task bytes old) is fed))
+fed_again task bytes more old fault is fed = subst (IsAfter task (bytes ++ more) old) (sym is) (HasFault-more task bytes more fault (subst (IsAfter task bytes old) is fed))
 
 -- ---- a fault is the answer
 

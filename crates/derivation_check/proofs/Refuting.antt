@@ -30,8 +30,8 @@ any_after goal clause clauses (k, found, within, is, refutes) = (suc k, found, o
 next : (clauses : List (List Literal)) (k : ℕ) → k < length clauses → drop k clauses ≡ clause_at clauses (k + 1) ∷ drop (k + 1) clauses
 next clauses k within = let e : k + 1 - 1 ≡ k = omega arith in rw e (drop_more clauses k [] within)
 
-pub any_goes_on : (goal : Literal) (clauses : List (List Literal)) (axioms k : ℕ) → k < length clauses → (Refutes goal (clause_at clauses (k + 1)) → ⊥) → AnyRefutes goal (drop axioms clauses) ↔ AnyRefutes goal (drop k clauses) → AnyRefutes goal (drop axioms clauses) ↔ AnyRefutes goal (drop (k + 1) clauses)
-any_goes_on goal clauses axioms k within other both =
+pub any_later : (goal : Literal) (clauses : List (List Literal)) (axioms k : ℕ) → k < length clauses → (Refutes goal (clause_at clauses (k + 1)) → ⊥) → AnyRefutes goal (drop axioms clauses) ↔ AnyRefutes goal (drop k clauses) → AnyRefutes goal (drop axioms clauses) ↔ AnyRefutes goal (drop (k + 1) clauses)
+any_later goal clauses axioms k within other both =
     let rest = next clauses k within in (
       λ h. any_cons goal (clause_at clauses (k + 1)) (drop (k + 1) clauses) other (subst (AnyRefutes goal) rest (both.0 h)),
       λ h. both.1 (subst (AnyRefutes goal) (sym rest) (any_after goal (clause_at clauses (k + 1)) (drop (k + 1) clauses) h)),

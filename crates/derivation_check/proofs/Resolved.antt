@@ -25,9 +25,9 @@ pub begins : (clauses : List (List Literal)) (hints : List ℕ) (d : ℕ) (first
 begins clauses hints d first so_far some is leads clause =
     subst (λ (all : List (List Literal)). ResolveTo all clause ↔ Leads so_far (drop 1 (named clauses hints)) clause) (sym (named_from clauses hints 0 d first some is)) (leads (drop 1 (named clauses hints)) clause)
 
-pub goes_on : (clauses : List (List Literal)) (hints : List ℕ) (i d : ℕ) (hint : List Literal) (so_far next : SoFar) → i < length hints → hint ≡ clause_at clauses (slice_index_or hints i d)
+pub takes_next : (clauses : List (List Literal)) (hints : List ℕ) (i d : ℕ) (hint : List Literal) (so_far next : SoFar) → i < length hints → hint ≡ clause_at clauses (slice_index_or hints i d)
     → Joins so_far hint next → Reaches clauses hints i so_far → Reaches clauses hints (i + 1) next
-goes_on clauses hints i d hint so_far next within is leads before clause =
+takes_next clauses hints i d hint so_far next within is leads before clause =
     let rest = named_from clauses hints i d hint within is in
     let both = leads (drop (i + 1) (named clauses hints)) clause in (
       λ h. both.0 (subst (λ (all : List (List Literal)). Leads so_far all clause) rest ((before clause).0 h)),

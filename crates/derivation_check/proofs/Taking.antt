@@ -10,7 +10,7 @@ use Rattle.qc_base.proofs.Words.{around_sign, free_before}
 use Rattle.derivation_check.specs.declared.cert_fault.CertFault.{CertFault}
 use Rattle.derivation_check.specs.declared.cert_fault.CertFault.TheVariants.{Line as ALine, Bad, NotRefuting, Endless, NoMemory}
 use Rattle.derivation_check.specs.Faults.{Task, Reads, HasMalformedLine, HasBadLine}
-use Rattle.derivation_check.specs.Progress.{Progress, Accepts, HasLineFault, GoesOnAs}
+use Rattle.derivation_check.specs.Progress.{Progress, Accepts, HasLineFault, KeepsRest}
 use Rattle.derivation_check.proofs.Accepting.{Reads-more, IsFree-append}
 use Rattle.sat_base.specs.Certificate.{line_text}
 use Rattle.derivation_check.specs.Faults.{number_after}
@@ -53,10 +53,10 @@ pub record TookUpTo (old : Progress) (bytes rest : List ℕ) (now : Progress) : 
   pub front : List ℕ
   pub parts : bytes ≡ front ++ rest
   pub accepts : (task : Task) (before : List ℕ) → Accepts task before old → Accepts task (before ++ front) now
-  pub same : GoesOnAs old now
+  pub same : KeepsRest old now
 
-pub GoesOnAs-trans : (a b c : Progress) → GoesOnAs a b → GoesOnAs b c → GoesOnAs a c
-GoesOnAs-trans a b c ab bc = record { vars = bc.vars ∙ ab.vars; limit = bc.limit ∙ ab.limit; fed = bc.fed ∙ ab.fed; stopped = bc.stopped ∙ ab.stopped }
+pub KeepsRest-trans : (a b c : Progress) → KeepsRest a b → KeepsRest b c → KeepsRest a c
+KeepsRest-trans a b c ab bc = record { vars = bc.vars ∙ ab.vars; limit = bc.limit ∙ ab.limit; fed = bc.fed ∙ ab.fed; stopped = bc.stopped ∙ ab.stopped }
 
 -- a line is what is in front of the first line feed, and the line feed
 pub line_word : (rest line after : List ℕ) (end : ℕ) → position (λ byte. byte == 10) rest ≡ Some end → end + 1 ≤ length rest → line ≡ take (end + 1) rest → line ≡ take end rest ++ 10 ∷ []
@@ -76,12 +76,12 @@ line_free rest end found = free_before 10 end rest found
 
 -- one line more is taken
 pub took_more : (old now next : Progress) (bytes rest line after word : List ℕ) → TookUpTo old bytes rest now → rest ≡ line ++ after → line ≡ word ++ 10 ∷ [] → IsFree 10 word
-    → ((task : Task) (before word : List ℕ) → line ≡ word ++ 10 ∷ [] → IsFree 10 word → Accepts task before now → Accepts task (before ++ line) next) → GoesOnAs now next → TookUpTo old bytes after next
+    → ((task : Task) (before word : List ℕ) → line ≡ word ++ 10 ∷ [] → IsFree 10 word → Accepts task before now → Accepts task (before ++ line) next) → KeepsRest now next → TookUpTo old bytes after next
 took_more old now next bytes rest line after word took parts is free accepts same = record {
   front = took.front ++ line;
   parts = took.parts ∙ ap (λ (xs : List ℕ). took.front ++ xs) parts ∙ sym (append_assoc took.front line after);
   accepts = λ task before accepted. subst (λ (xs : List ℕ). Accepts task xs next) (append_assoc before took.front line) (accepts task (before ++ took.front) word is free (took.accepts task before accepted));
-  same = GoesOnAs-trans old now next took.same same;
+  same = KeepsRest-trans old now next took.same same;
 }
 
 -- a line has a fault

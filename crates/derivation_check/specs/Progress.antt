@@ -34,20 +34,20 @@ pub record Accepts (task : Task) (bytes : List ℕ) (checker : Progress) : Type 
   pub vars : checker.vars ≡ task.vars
 
 -- and these are all bytes that it took, within the limit
-pub record GoesOn (task : Task) (bytes : List ℕ) (checker : Progress) : Type 0 where
+pub record HasTaken (task : Task) (bytes : List ℕ) (checker : Progress) : Type 0 where
   pub accepts : Accepts task bytes checker
   pub fed : checker.fed ≡ length bytes
   pub limit : checker.limit ≡ task.limit
   pub within : length bytes ≤ task.limit
 
 -- where no fault was answered it continues, else the bytes have that fault
-abbrev pub StandsAt : Task → List ℕ → Progress → Option CertFault → Type 0
-StandsAt task bytes checker None = GoesOn task bytes checker
-StandsAt task bytes checker (Some fault) = HasFault task bytes fault
+abbrev pub IsAfter : Task → List ℕ → Progress → Option CertFault → Type 0
+IsAfter task bytes checker None = HasTaken task bytes checker
+IsAfter task bytes checker (Some fault) = HasFault task bytes fault
 
 -- the checker has the task, and was fed these bytes
 abbrev pub WasFed : Task → List ℕ → Progress → Type 0
-WasFed task bytes checker = StandsAt task bytes checker checker.stopped
+WasFed task bytes checker = IsAfter task bytes checker checker.stopped
 
 -- ---- for private functions
 
@@ -59,7 +59,7 @@ HasLineFault task bytes NoMemory = Unit {0}
 HasLineFault task bytes fault = ⊥
 
 -- all but the clauses, the place and the bytes of the line stays
-pub record GoesOnAs (old new : Progress) : Type 0 where
+pub record KeepsRest (old new : Progress) : Type 0 where
   pub vars : new.vars ≡ old.vars
   pub limit : new.limit ≡ old.limit
   pub fed : new.fed ≡ old.fed

@@ -6,7 +6,7 @@ ghost use Rattle.sat_base.specs.Literal.{positive_of};
 ghost use Rattle.sat_base.specs.Derivation.{Refutes, AnyRefutes};
 ghost use Rattle.derivation_check.specs.declared.cert_fault.CertFault.{CertFault as ACertFault};
 ghost use Rattle.derivation_check.specs.Faults.{Task, HasFault, Answers};
-ghost use Rattle.derivation_check.specs.Progress.{Accepts, WasFed, HasLineFault, GoesOnAs, task_of};
+ghost use Rattle.derivation_check.specs.Progress.{Accepts, WasFed, HasLineFault, KeepsRest, task_of};
 
 use crate::cert_fault::CertFault;
 use crate::judge::is_good;
@@ -61,7 +61,7 @@ impl Checker {
     pub fn new(alloc: Global, formula: Formula, vars: u32, limit: u64) -> Checker
         requires { vars < 2 ^ 31 }
         ensures fed { WasFed (task_of formula vars limit) [] result }
-        ensures goes_on { result.stopped ≡ None }
+        ensures no_fault { result.stopped ≡ None }
     {
         Checker {
             axioms: formula.len(),
@@ -132,7 +132,7 @@ impl Checker {
             WasFed task bytes self.old → WasFed task (bytes ++ piece.now) self.new) }
         ensures err { IfErr result (λ fault. (task : Task) (bytes : List ℕ) →
             WasFed task bytes self.old → HasFault task (bytes ++ piece.now) fault) }
-        ensures goes_on { self.new.stopped ≡ None }
+        ensures no_fault { self.new.stopped ≡ None }
     {
         let room = self.limit - self.fed;
         let len = piece.len() as u64;
@@ -151,7 +151,7 @@ impl Checker {
             Accepts task before self.old → Accepts task (before ++ bytes.now) self.new) }
         ensures err { IfErr result (λ fault. (task : Task) (before : List ℕ) →
             Accepts task before self.old → HasLineFault task (before ++ bytes.now) fault) }
-        ensures same { GoesOnAs self.old self.new }
+        ensures same { KeepsRest self.old self.new }
     {
         let mut rest = bytes;
         while let Some(end) = line_end(rest) {
@@ -171,7 +171,7 @@ impl Checker {
         ensures err { IfErr result (λ fault. (task : Task) (before word : List ℕ) →
             bytes.now ≡ word ++ 10 ∷ [] → IsFree 10 word → Accepts task before self.old
             → HasLineFault task (before ++ bytes.now) fault) }
-        ensures same { GoesOnAs self.old self.new }
+        ensures same { KeepsRest self.old self.new }
     {
         self.pending.extend_from_slice(bytes)?;
         // A number past 64 bits would need more memory than a machine has.
@@ -209,7 +209,7 @@ impl Checker {
     fn count(&mut self, goal: u32) -> Result<u64, CertFault>
         requires from_1 { 1 ≤ goal }
         requires below { goal < 2 ^ 31 }
-        requires goes_on { self.old.stopped ≡ None }
+        requires no_fault { self.old.stopped ≡ None }
         ensures answers { (task : Task) (bytes : List ℕ) →
             WasFed task bytes self.old → Answers task bytes (positive_of goal) result }
         ensures same { self.new ≡ self.old }

@@ -172,11 +172,11 @@ begins log chain d first so_far resolves is leads clause =
     let whole : chain_of log chain ≡ first ∷ drop 1 (chain_of log chain) = chain_from log chain 0 d (some_line log chain resolves) ∙ ap (λ (c : List Literal). c ∷ drop 1 (chain_of log chain)) (sym is) in
     subst (λ (clauses : List (List Literal)). ResolveTo clauses clause ↔ Leads so_far (drop 1 (chain_of log chain)) clause) (sym whole) (leads (drop 1 (chain_of log chain)) clause)
 
-pub goes_on : (log : Lines) (chain : List LineId) (i : ℕ) (d : LineId) (hint : List Literal) (so_far next : SoFar) → i < length chain → hint ≡ clause_of log (slice_index_or chain i d)
+pub continues : (log : Lines) (chain : List LineId) (i : ℕ) (d : LineId) (hint : List Literal) (so_far next : SoFar) → i < length chain → hint ≡ clause_of log (slice_index_or chain i d)
     → Joins so_far hint next
     → ((clause : List Literal) → ResolveTo (chain_of log chain) clause ↔ Leads so_far (drop i (chain_of log chain)) clause)
     → (clause : List Literal) → ResolveTo (chain_of log chain) clause ↔ Leads next (drop (i + 1) (chain_of log chain)) clause
-goes_on log chain i d hint so_far next within is leads before clause =
+continues log chain i d hint so_far next within is leads before clause =
     let rest : drop i (chain_of log chain) ≡ hint ∷ drop (i + 1) (chain_of log chain) = chain_from log chain i d within ∙ ap (λ (c : List Literal). c ∷ drop (i + 1) (chain_of log chain)) (sym is) in
     let both = leads (drop (i + 1) (chain_of log chain)) clause in (
       λ h. both.0 (subst (λ (clauses : List (List Literal)). Leads so_far clauses clause) rest ((before clause).0 h)),

@@ -63,7 +63,8 @@ fn resolve(
     requires named { All (IsLine (log_of axioms.now derived.now)) chain.now }
     requires resolves { Resolve (chain_of (log_of axioms.now derived.now) chain.now) }
     ensures resolved { OnOk result ((clause : List Literal) →
-        ResolveTo (chain_of (log_of axioms.now derived.now) chain.now) clause ↔ SameLiterals resolution.new.clause clause) }
+        ResolveTo (chain_of (log_of axioms.now derived.now) chain.now) clause
+        ↔ SameLiterals resolution.new.clause clause) }
     ensures consistent { OnOk result (IsConsistent resolution.new.clause) }
 {
     resolution.start(clause_in(axioms, derived, chain[0]))?;

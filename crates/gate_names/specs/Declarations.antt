@@ -64,7 +64,8 @@ item_of table params qubits (item.Cx control target) =
     positions_of qubits (control ∷ target ∷ []) >>= call_of params 1 []
 item_of table params qubits (item.Call name exps args) =
     gate_named table name >>= λ gate.
-    counts_fit (slice_get table.gates gate) (length exps) (length args) >> positions_of qubits args >>= call_of params gate exps
+    counts_fit (slice_get table.gates gate) (length exps) (length args)
+    >> positions_of qubits args >>= call_of params gate exps
 item_of table params qubits (item.Barrier args) =
     positions_of qubits args >>= λ positions. Ok (Barrier (fold with_position [] positions))
 
@@ -76,7 +77,8 @@ items_of table params qubits = each (item_of table params qubits)
 
 abbrev pub opaque_declared : Table → List ℕ → List (List ℕ) → List (List ℕ) → Result Table Cause
 opaque_declared table name params qubits =
-    fresh table name >> formals_fit params qubits >> Ok (with_gate table name (gate.Opaque name (length params) (length qubits)))
+    fresh table name >> formals_fit params qubits
+    >> Ok (with_gate table name (gate.Opaque name (length params) (length qubits)))
 
 -- A gate is declared after its body.
 abbrev pub gate_declared : Table → List ℕ → List (List ℕ) → List (List ℕ) → List BodyItem → Result Table Cause

@@ -23,5 +23,6 @@ pub record Table : Type 0 where
 
 -- each name of a gate has the number of one, and all gates that are there from the start are there
 pub record IsTable (table : Table) : Type 0 where
-  pub known : (name : List ℕ) (number : ℕ) → meaning_in table.names name ≡ Some (meaning.Gate number) → number < length table.gates
+  pub known : (name : List ℕ) (number : ℕ) → meaning_in table.names name ≡ Some (meaning.Gate number)
+      → number < length table.gates
   pub start : 36 ≤ length table.gates

@@ -27,7 +27,8 @@ term_step params Exp-F.Pi = Ok (roll-Term Term-F.Pi)
 term_step params (Exp-F.Neg a) = a >>= λ x. Ok (roll-Term (Term-F.Neg x))
 term_step params (Exp-F.Bin op a b) = a >>= λ x. b >>= λ y. Ok (roll-Term (Term-F.Bin op x y))
 term_step params (Exp-F.Fun f a) = a >>= λ x. Ok (roll-Term (Term-F.Fun f x))
-term_step params (Exp-F.Id name) = found_or (position_of params name) Undeclared >>= λ k. Ok (roll-Term (Term-F.Param k))
+term_step params (Exp-F.Id name) =
+    found_or (position_of params name) Undeclared >>= λ k. Ok (roll-Term (Term-F.Param k))
 
 -- an expression in these parameters; another name in it is undeclared
 abbrev pub term_of : List (List ℕ) → Exp → Result Term Cause

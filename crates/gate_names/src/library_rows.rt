@@ -86,7 +86,8 @@ const CCX: usize = 26;
 
 /// The gate of that place in the library.
 pub fn row_at(place: usize) -> Option<Row>
-    ensures { MatchOption result (slice_get library place ≡ None) (λ row. slice_get library place ≡ Some (gate_of row)) }
+    ensures { MatchOption result (slice_get library place ≡ None)
+        (λ row. slice_get library place ≡ Some (gate_of row)) }
 {
     Some(match place {
         0 => Row {

@@ -133,8 +133,8 @@ sign_comes s large before front rest t =
 pub sign_allowed : (End : List PlacedToken → Type 0) (s : Sign) → Allows End s → (large : Option ℕ) (front rest : List PlacedToken) → sign s large front → End (front ++ rest)
 sign_allowed End s allows large front rest t = let o = one_token (token.Sign s) front t.1 in rw o.1 (allows o.0 rest o.2)
 
-goes_on : {X : Type 0} (F : X → Form) (EndF : List PlacedToken → Type 0) → Allows EndF Comma → Goes (comes Comma) (λ x. sign Comma ▸ F x) EndF (both EndF (without Comma))
-goes_on F EndF allows = record {
+continues : {X : Type 0} (F : X → Form) (EndF : List PlacedToken → Type 0) → Allows EndF Comma → Goes (comes Comma) (λ x. sign Comma ▸ F x) EndF (both EndF (without Comma))
+continues F EndF allows = record {
   starts = λ y large before front rest t. rw (t.parts, append_assoc) (sign_comes Comma t.large_front before t.front (t.back ++ rest) t.first);
   stops = λ before rest end. end.1;
   another = λ y large front rest t. rw (t.parts, append_assoc) (sign_allowed EndF Comma allows t.large_front t.front (t.back ++ rest) t.first);
@@ -142,13 +142,13 @@ goes_on F EndF allows = record {
 }
 
 reads_tail : {X : Type 0} (F : X → Form) (EndF : List PlacedToken → Type 0) (f : Reader X) → Reads F EndF f → Allows EndF Comma → Reads (each (λ x. sign Comma ▸ F x)) (both EndF (without Comma)) (repeat_at (comes Comma) (after_sign Comma f))
-reads_tail F EndF f rf allows = reads_repeat (comes Comma) (λ x. sign Comma ▸ F x) EndF (both EndF (without Comma)) (after_sign Comma f) (reads_after_sign Comma F EndF f rf) (Shortens-after_sign Comma F f rf.found) (goes_on F EndF allows)
+reads_tail F EndF f rf allows = reads_repeat (comes Comma) (λ x. sign Comma ▸ F x) EndF (both EndF (without Comma)) (after_sign Comma f) (reads_after_sign Comma F EndF f rf) (Shortens-after_sign Comma F f rf.found) (continues F EndF allows)
 
 commas_only : {X : Type 0} (F : X → Form) (EndF : List PlacedToken → Type 0) (f : Reader X) → Reads F EndF f → Allows EndF Comma → (xs : List X) (large before : Option ℕ) (front rest : List PlacedToken) → commas F xs large front → both EndF (without Comma) rest → commas_at f (at (front ++ rest) before) ≡ Some (xs, at rest (option_or before large))
 commas_only F EndF f rf allows [] large before front rest t end = absurd t
 commas_only F EndF f rf allows (x ∷ xs) large before front rest t end =
     rw (t.parts, append_assoc, t.earlier, ← or_assoc)
-    (rw (rf.only x t.large_front before t.front (t.back ++ rest) t.first (next_ends (comes Comma) (λ y. sign Comma ▸ F y) EndF (both EndF (without Comma)) (goes_on F EndF allows) xs t.large_back t.back rest t.second end))
+    (rw (rf.only x t.large_front before t.front (t.back ++ rest) t.first (next_ends (comes Comma) (λ y. sign Comma ▸ F y) EndF (both EndF (without Comma)) (continues F EndF allows) xs t.large_back t.back rest t.second end))
     (rw ((reads_tail F EndF f rf allows).only xs t.large_back (option_or before t.large_front) t.back rest t.second end) refl))
 
 commas_front : {X : Type 0} (F : X → Form) (x : X) (st mid : State) (r : Option (List X × State)) (ys : List X) (after : State) → Took (F x) st mid → ((zs : List X) (end : State) → r ≡ Some (zs, end) → Took (each (λ y. sign Comma ▸ F y) zs) mid end) → with_front (x ∷ []) r ≡ Some (ys, after) → Took (commas F ys) st after

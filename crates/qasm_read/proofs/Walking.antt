@@ -82,12 +82,12 @@ to_left Pow level e ts le h = low_atom level e ts le h
 -- ---- what the frames stand for
 
 -- the tokens that these frames stand for, from the outermost on
-abbrev Stands : List Frame → List Token → Type 0
-Stands [] ts = ts ≡ []
-Stands (Parenthesis ∷ frames) ts = (us : List Token) × Stands frames us × (ts ≡ us ++ (token.Sign signs.LeftParenthesis ∷ []))
-Stands (Function f ∷ frames) ts = (us : List Token) × Stands frames us × (ts ≡ us ++ (word_of f ∷ token.Sign signs.LeftParenthesis ∷ []))
-Stands (Minus ∷ frames) ts = (us : List Token) × Stands frames us × (ts ≡ us ++ (token.Sign signs.Minus ∷ []))
-Stands (Left op left ∷ frames) ts = (us : List Token) × (vs : List Token) × (e : Exp) × Stands frames us × Spells (left_of op) e vs × (left ≡ image e) × Weak (ceiling_of (whole_of op)) frames × (ts ≡ us ++ (vs ++ sign_of op ∷ []))
+abbrev Opened : List Frame → List Token → Type 0
+Opened [] ts = ts ≡ []
+Opened (Parenthesis ∷ frames) ts = (us : List Token) × Opened frames us × (ts ≡ us ++ (token.Sign signs.LeftParenthesis ∷ []))
+Opened (Function f ∷ frames) ts = (us : List Token) × Opened frames us × (ts ≡ us ++ (word_of f ∷ token.Sign signs.LeftParenthesis ∷ []))
+Opened (Minus ∷ frames) ts = (us : List Token) × Opened frames us × (ts ≡ us ++ (token.Sign signs.Minus ∷ []))
+Opened (Left op left ∷ frames) ts = (us : List Token) × (vs : List Token) × (e : Exp) × Opened frames us × Spells (left_of op) e vs × (left ≡ image e) × Weak (ceiling_of (whole_of op)) frames × (ts ≡ us ++ (vs ++ sign_of op ∷ []))
 
 -- frames and an expression in them
 record Stood (frames : List Frame) (tree : Option Tree) (ts : List Token) : Type 0 where
@@ -95,7 +95,7 @@ record Stood (frames : List Frame) (tree : Option Tree) (ts : List Token) : Type
   own : List Token
   e : Exp
   level : Level
-  stands : Stands frames before
+  opened : Opened frames before
   spells : Spells level e own
   tree_is : tree ≡ image e
   parts : ts ≡ before ++ own
@@ -125,29 +125,29 @@ put_stood Parenthesis frames tree ts s holds = absurd (omega arith)
 put_stood (Function f) frames tree ts s holds = absurd (omega arith)
 put_stood Minus frames tree ts s holds = record {
   stood = record {
-    before = s.stands.0;
+    before = s.opened.0;
     own = token.Sign signs.Minus ∷ s.own;
     e = roll-Exp (Exp-F.Neg s.e);
     level = factor;
-    stands = s.stands.1;
+    opened = s.opened.1;
     spells = negated s.e s.own (to_factor s.level s.e s.own (let w = s.weak in omega arith) s.spells);
     tree_is = ap (λ (t : Option Tree). trees.negated t) s.tree_is ∙ image_neg s.e;
-    parts = s.parts ∙ ap (λ (us : List Token). us ++ s.own) s.stands.2 ∙ append_assoc s.stands.0 (token.Sign signs.Minus ∷ []) s.own;
+    parts = s.parts ∙ ap (λ (us : List Token). us ++ s.own) s.opened.2 ∙ append_assoc s.opened.0 (token.Sign signs.Minus ∷ []) s.own;
     weak = all_weak frames;
   };
   high = omega arith;
 }
 put_stood (Left op left) frames tree ts s holds = record {
   stood = record {
-    before = s.stands.0;
-    own = s.stands.1 ++ (sign_of op ∷ s.own);
-    e = roll-Exp (Exp-F.Bin op s.stands.2 s.e);
+    before = s.opened.0;
+    own = s.opened.1 ++ (sign_of op ∷ s.own);
+    e = roll-Exp (Exp-F.Bin op s.opened.2 s.e);
     level = whole_of op;
-    stands = s.stands.3;
-    spells = joined op s.stands.2 s.e s.stands.1 s.own s.stands.4 (to_right op s.level s.e s.own s.weak s.spells);
-    tree_is = ap (λ (t : Option Tree). trees.joined op t tree) s.stands.5 ∙ ap (λ (t : Option Tree). trees.joined op (image s.stands.2) t) s.tree_is ∙ image_bin op s.stands.2 s.e;
-    parts = s.parts ∙ ap (λ (us : List Token). us ++ s.own) s.stands.7 ∙ append_assoc s.stands.0 (s.stands.1 ++ sign_of op ∷ []) s.own ∙ ap (λ (us : List Token). s.stands.0 ++ us) (append_assoc s.stands.1 (sign_of op ∷ []) s.own);
-    weak = s.stands.6;
+    opened = s.opened.3;
+    spells = joined op s.opened.2 s.e s.opened.1 s.own s.opened.4 (to_right op s.level s.e s.own s.weak s.spells);
+    tree_is = ap (λ (t : Option Tree). trees.joined op t tree) s.opened.5 ∙ ap (λ (t : Option Tree). trees.joined op (image s.opened.2) t) s.tree_is ∙ image_bin op s.opened.2 s.e;
+    parts = s.parts ∙ ap (λ (us : List Token). us ++ s.own) s.opened.7 ∙ append_assoc s.opened.0 (s.opened.1 ++ sign_of op ∷ []) s.own ∙ ap (λ (us : List Token). s.opened.0 ++ us) (append_assoc s.opened.1 (sign_of op ∷ []) s.own);
+    weak = s.opened.6;
   };
   high = omega (arith, floor_whole op);
 }
@@ -176,9 +176,9 @@ rests n pos (f ∷ frames) tree ts s high = rests_by n f frames tree ts (leb n (
 
 -- the tokens so far, in a mode
 abbrev Fits : Mode → List Token → Type 0
-Fits (wanted frames) ts = Stands frames ts
-Fits (opening f frames) ts = (us : List Token) × Stands frames us × (ts ≡ us ++ (word_of f ∷ []))
-Fits (there frames tree) ts = (us : List Token) × (vs : List Token) × (e : Exp) × Stands frames us × Spells atom e vs × (tree ≡ image e) × (ts ≡ us ++ vs)
+Fits (wanted frames) ts = Opened frames ts
+Fits (opening f frames) ts = (us : List Token) × Opened frames us × (ts ≡ us ++ (word_of f ∷ []))
+Fits (there frames tree) ts = (us : List Token) × (vs : List Token) × (e : Exp) × Opened frames us × Spells atom e vs × (tree ≡ image e) × (ts ≡ us ++ vs)
 
 -- an expression that the tokens so far and those of the front spell
 pub record Got (ts : List Token) (placed : List PlacedToken) (tree : Option Tree) (rest : List PlacedToken) : Type 0 where
@@ -199,7 +199,7 @@ got_more ts p t placed tree rest e g = record {
 
 got_here : (ts : List Token) (frames : List Frame) (tree : Option Tree) (placed : List PlacedToken) → frames ≡ [] → Stood frames tree ts → Got ts placed tree placed
 got_here ts frames tree placed none s =
-    let own : ts ≡ s.own = s.parts ∙ ap (λ (us : List Token). us ++ s.own) (subst (λ (fs : List Frame). Stands fs s.before) none s.stands) in
+    let own : ts ≡ s.own = s.parts ∙ ap (λ (us : List Token). us ++ s.own) (subst (λ (fs : List Frame). Opened fs s.before) none s.opened) in
     record {
       e = s.e;
       front = [];
@@ -209,7 +209,7 @@ got_here ts frames tree placed none s =
     }
 
 abbrev atom_stood : (frames : List Frame) (tree : Option Tree) (ts : List Token) → Fits (there frames tree) ts → Stood frames tree ts
-atom_stood frames tree ts f = record { before = f.0; own = f.1; e = f.2; level = atom; stands = f.3; spells = f.4; tree_is = f.5; parts = f.6; weak = all_weak frames }
+atom_stood frames tree ts f = record { before = f.0; own = f.1; e = f.2; level = atom; opened = f.3; spells = f.4; tree_is = f.5; parts = f.6; weak = all_weak frames }
 
 -- what is known of the tokens after
 abbrev Onward : List PlacedToken → Option Tree → List PlacedToken → Type 0
@@ -221,26 +221,26 @@ at_last ts (f ∷ frames) tree found left s e = absurd cc
 
 -- ---- an expression is wanted
 
-leaf_there : (frames : List Frame) (ts : List Token) (t : Token) (e : Exp) → Stands frames ts → Spells atom e (t ∷ []) → trees.leaf e ≡ image e → Fits (there frames (trees.leaf e)) (ts ++ t ∷ [])
-leaf_there frames ts t e stands spells is = (ts, t ∷ [], e, stands, spells, is, refl)
+leaf_there : (frames : List Frame) (ts : List Token) (t : Token) (e : Exp) → Opened frames ts → Spells atom e (t ∷ []) → trees.leaf e ≡ image e → Fits (there frames (trees.leaf e)) (ts ++ t ∷ [])
+leaf_there frames ts t e opened spells is = (ts, t ∷ [], e, opened, spells, is, refl)
 
-walk_word : (f : FunName) (frames : List Frame) (ts : List Token) (rest : List PlacedToken) (tree : Option Tree) (left : List PlacedToken) → Onward rest tree left → Stands frames ts → run rest (opening f frames) ≡ Some (tree, left) → Got (ts ++ word_of f ∷ []) rest tree left
-walk_word f frames ts rest tree left on stands e = on (opening f frames) (ts ++ word_of f ∷ []) (ts, stands, refl) e
+walk_word : (f : FunName) (frames : List Frame) (ts : List Token) (rest : List PlacedToken) (tree : Option Tree) (left : List PlacedToken) → Onward rest tree left → Opened frames ts → run rest (opening f frames) ≡ Some (tree, left) → Got (ts ++ word_of f ∷ []) rest tree left
+walk_word f frames ts rest tree left on opened e = on (opening f frames) (ts ++ word_of f ∷ []) (ts, opened, refl) e
 
-walk_wanted : (t : Token) (frames : List Frame) (ts : List Token) (rest : List PlacedToken) (tree : Option Tree) (left : List PlacedToken) → Onward rest tree left → Stands frames ts → begun rest frames (start_of t) ≡ Some (tree, left) → Got (ts ++ t ∷ []) rest tree left
-walk_wanted (token.Sign signs.Minus) frames ts rest tree left on stands e = on (wanted (Minus ∷ frames)) (ts ++ token.Sign signs.Minus ∷ []) (ts, stands, refl) e
-walk_wanted (token.Sign signs.LeftParenthesis) frames ts rest tree left on stands e = on (wanted (Parenthesis ∷ frames)) (ts ++ token.Sign signs.LeftParenthesis ∷ []) (ts, stands, refl) e
-walk_wanted (token.Identifier n) frames ts rest tree left on stands e = on (there frames (trees.leaf (roll-Exp (Exp-F.Id n)))) (ts ++ token.Identifier n ∷ []) (leaf_there frames ts (token.Identifier n) (roll-Exp (Exp-F.Id n)) stands (named n) (image_id n)) e
-walk_wanted (token.Integer n) frames ts rest tree left on stands e = on (there frames (trees.leaf (roll-Exp (Exp-F.Int n)))) (ts ++ token.Integer n ∷ []) (leaf_there frames ts (token.Integer n) (roll-Exp (Exp-F.Int n)) stands (whole n) (image_int n)) e
-walk_wanted (token.Real r) frames ts rest tree left on stands e = on (there frames (trees.leaf (roll-Exp (Exp-F.Real r)))) (ts ++ token.Real r ∷ []) (leaf_there frames ts (token.Real r) (roll-Exp (Exp-F.Real r)) stands (real r) (image_real r)) e
-walk_wanted (token.Keyword word.Pi) frames ts rest tree left on stands e = on (there frames (trees.leaf (roll-Exp Exp-F.Pi))) (ts ++ token.Keyword word.Pi ∷ []) (leaf_there frames ts (token.Keyword word.Pi) (roll-Exp Exp-F.Pi) stands pi image_pi) e
-walk_wanted (token.Keyword word.Sin) frames ts rest tree left on stands e = walk_word function.Sin frames ts rest tree left on stands e
-walk_wanted (token.Keyword word.Cos) frames ts rest tree left on stands e = walk_word function.Cos frames ts rest tree left on stands e
-walk_wanted (token.Keyword word.Tan) frames ts rest tree left on stands e = walk_word function.Tan frames ts rest tree left on stands e
-walk_wanted (token.Keyword word.Exp) frames ts rest tree left on stands e = walk_word function.Exp frames ts rest tree left on stands e
-walk_wanted (token.Keyword word.Ln) frames ts rest tree left on stands e = walk_word function.Ln frames ts rest tree left on stands e
-walk_wanted (token.Keyword word.Sqrt) frames ts rest tree left on stands e = walk_word function.Sqrt frames ts rest tree left on stands e
-walk_wanted other frames ts rest tree left on stands e = absurd cc
+walk_wanted : (t : Token) (frames : List Frame) (ts : List Token) (rest : List PlacedToken) (tree : Option Tree) (left : List PlacedToken) → Onward rest tree left → Opened frames ts → begun rest frames (start_of t) ≡ Some (tree, left) → Got (ts ++ t ∷ []) rest tree left
+walk_wanted (token.Sign signs.Minus) frames ts rest tree left on opened e = on (wanted (Minus ∷ frames)) (ts ++ token.Sign signs.Minus ∷ []) (ts, opened, refl) e
+walk_wanted (token.Sign signs.LeftParenthesis) frames ts rest tree left on opened e = on (wanted (Parenthesis ∷ frames)) (ts ++ token.Sign signs.LeftParenthesis ∷ []) (ts, opened, refl) e
+walk_wanted (token.Identifier n) frames ts rest tree left on opened e = on (there frames (trees.leaf (roll-Exp (Exp-F.Id n)))) (ts ++ token.Identifier n ∷ []) (leaf_there frames ts (token.Identifier n) (roll-Exp (Exp-F.Id n)) opened (named n) (image_id n)) e
+walk_wanted (token.Integer n) frames ts rest tree left on opened e = on (there frames (trees.leaf (roll-Exp (Exp-F.Int n)))) (ts ++ token.Integer n ∷ []) (leaf_there frames ts (token.Integer n) (roll-Exp (Exp-F.Int n)) opened (whole n) (image_int n)) e
+walk_wanted (token.Real r) frames ts rest tree left on opened e = on (there frames (trees.leaf (roll-Exp (Exp-F.Real r)))) (ts ++ token.Real r ∷ []) (leaf_there frames ts (token.Real r) (roll-Exp (Exp-F.Real r)) opened (real r) (image_real r)) e
+walk_wanted (token.Keyword word.Pi) frames ts rest tree left on opened e = on (there frames (trees.leaf (roll-Exp Exp-F.Pi))) (ts ++ token.Keyword word.Pi ∷ []) (leaf_there frames ts (token.Keyword word.Pi) (roll-Exp Exp-F.Pi) opened pi image_pi) e
+walk_wanted (token.Keyword word.Sin) frames ts rest tree left on opened e = walk_word function.Sin frames ts rest tree left on opened e
+walk_wanted (token.Keyword word.Cos) frames ts rest tree left on opened e = walk_word function.Cos frames ts rest tree left on opened e
+walk_wanted (token.Keyword word.Tan) frames ts rest tree left on opened e = walk_word function.Tan frames ts rest tree left on opened e
+walk_wanted (token.Keyword word.Exp) frames ts rest tree left on opened e = walk_word function.Exp frames ts rest tree left on opened e
+walk_wanted (token.Keyword word.Ln) frames ts rest tree left on opened e = walk_word function.Ln frames ts rest tree left on opened e
+walk_wanted (token.Keyword word.Sqrt) frames ts rest tree left on opened e = walk_word function.Sqrt frames ts rest tree left on opened e
+walk_wanted other frames ts rest tree left on opened e = absurd cc
 
 walk_opening : (p : PlacedToken) (f : FunName) (frames : List Frame) (ts : List Token) (rest : List PlacedToken) (tree : Option Tree) (left : List PlacedToken) → Onward rest tree left → Fits (opening f frames) ts → (b : Bool) → is_sign signs.LeftParenthesis p.token ≡ b → cond b (run rest (wanted (Function f ∷ frames))) None ≡ Some (tree, left) → Got ts (p ∷ rest) tree left
 walk_opening p f frames ts rest tree left on fits true is e =
@@ -273,13 +273,13 @@ weaker_than_atoms Mul = omega arith
 weaker_than_atoms Div = omega arith
 weaker_than_atoms Pow = omega arith
 
-left_fits : (op : BinOp) (frames : List Frame) (tree : Option Tree) (ts : List Token) → Rests (strength_of op) frames tree ts → Stands (Left op tree ∷ frames) (ts ++ sign_of op ∷ [])
+left_fits : (op : BinOp) (frames : List Frame) (tree : Option Tree) (ts : List Token) → Rests (strength_of op) frames tree ts → Opened (Left op tree ∷ frames) (ts ++ sign_of op ∷ [])
 left_fits op frames tree ts r =
     let s = r.stood in (
       s.before,
       s.own,
       s.e,
-      s.stands,
+      s.opened,
       to_left op s.level s.e s.own r.high s.spells,
       s.tree_is,
       Weak-more (strength_of op) (ceiling_of (whole_of op)) frames (omega (arith, ceiling_whole op)) r.low,
@@ -290,25 +290,25 @@ left_fits op frames tree ts r =
 closed_fits : (f : Frame) (outer : List Frame) (tree : Option Tree) (ts : List Token) → hold_of f < 1 → Stood (f ∷ outer) tree ts → Fits (there outer (put_in f tree)) (ts ++ token.Sign signs.RightParenthesis ∷ [])
 closed_fits Parenthesis outer tree ts low s =
     let inner = to_expression s.level s.e s.own s.spells in (
-      s.stands.0,
+      s.opened.0,
       enclosed s.own,
       s.e,
-      s.stands.1,
+      s.opened.1,
       in_parentheses s.e s.own inner,
       s.tree_is,
-      ap (λ (us : List Token). us ++ token.Sign signs.RightParenthesis ∷ []) (s.parts ∙ ap (λ (us : List Token). us ++ s.own) s.stands.2 ∙ append_assoc s.stands.0 (token.Sign signs.LeftParenthesis ∷ []) s.own)
-          ∙ append_assoc s.stands.0 (token.Sign signs.LeftParenthesis ∷ s.own) (token.Sign signs.RightParenthesis ∷ []),
+      ap (λ (us : List Token). us ++ token.Sign signs.RightParenthesis ∷ []) (s.parts ∙ ap (λ (us : List Token). us ++ s.own) s.opened.2 ∙ append_assoc s.opened.0 (token.Sign signs.LeftParenthesis ∷ []) s.own)
+          ∙ append_assoc s.opened.0 (token.Sign signs.LeftParenthesis ∷ s.own) (token.Sign signs.RightParenthesis ∷ []),
     )
 closed_fits (Function f) outer tree ts low s =
     let inner = to_expression s.level s.e s.own s.spells in (
-      s.stands.0,
+      s.opened.0,
       word_of f ∷ enclosed s.own,
       roll-Exp (Exp-F.Fun f s.e),
-      s.stands.1,
+      s.opened.1,
       applied f s.e s.own inner,
       ap (λ (t : Option Tree). trees.applied f t) s.tree_is ∙ image_fun f s.e,
-      ap (λ (us : List Token). us ++ token.Sign signs.RightParenthesis ∷ []) (s.parts ∙ ap (λ (us : List Token). us ++ s.own) s.stands.2 ∙ append_assoc s.stands.0 (word_of f ∷ token.Sign signs.LeftParenthesis ∷ []) s.own)
-          ∙ append_assoc s.stands.0 (word_of f ∷ token.Sign signs.LeftParenthesis ∷ s.own) (token.Sign signs.RightParenthesis ∷ []),
+      ap (λ (us : List Token). us ++ token.Sign signs.RightParenthesis ∷ []) (s.parts ∙ ap (λ (us : List Token). us ++ s.own) s.opened.2 ∙ append_assoc s.opened.0 (word_of f ∷ token.Sign signs.LeftParenthesis ∷ []) s.own)
+          ∙ append_assoc s.opened.0 (word_of f ∷ token.Sign signs.LeftParenthesis ∷ s.own) (token.Sign signs.RightParenthesis ∷ []),
     )
 closed_fits Minus outer tree ts low s = absurd (omega arith)
 closed_fits (Left Add left) outer tree ts low s = absurd (omega arith)

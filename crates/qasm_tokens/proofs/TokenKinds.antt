@@ -15,7 +15,7 @@ use Rattle.qasm_tokens.specs.declared.piece.Shape.TheVariants as shapes
 use Rattle.qasm_tokens.specs.Tokens.{keyword_of, is_upper, short_token, word_token, token_of, tokens_of, with_front}
 use Rattle.qasm_tokens.specs.Scan.{after_token}
 use Rattle.qasm_tokens.specs.TokenForms.{IsWord, IsString, HasForm}
-use Rattle.qasm_tokens.specs.TokenReading.{ReadsAs, at_end, no_form, bad_token, too_deep, goes_on}
+use Rattle.qasm_tokens.specs.TokenReading.{ReadsAs, at_end, no_form, bad_token, too_deep, with_rest}
 use Rattle.qasm_tokens.specs.TokenKinds.{IsToken, AreTokens}
 use Rattle.qasm_tokens.proofs.Pieces.{chosen}
 use Rattle.qasm_tokens.proofs.TokenReading.{reads}
@@ -76,7 +76,7 @@ all_are at_end placed e = let q : [] ≡ placed = cc e in subst AreTokens q tt
 all_are (no_form some none) placed e = absurd (cc e)
 all_are (bad_token piece longest bad) placed e = absurd (cc e)
 all_are (too_deep piece token longest good deep) placed e = absurd (cc e)
-all_are {at} {depth} {text} (goes_on piece token deeper rest longest good open_there more is) placed e =
+all_are {at} {depth} {text} (with_rest piece token deeper rest longest good open_there more is) placed e =
     after_all at token rest placed (λ t q. token_is at piece.shape (take piece.length text) t longest.form (good ∙ ap (λ (o : Option Token). let r : Result (Option Token) TokenFault = Ok o in r) q)) (all_are more) (sym is ∙ e)
 
 pub tokens_formed : (text : List ℕ) (placed : List PlacedToken) → tokens_of text ≡ Ok placed → AreTokens placed

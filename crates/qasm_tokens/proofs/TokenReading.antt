@@ -10,7 +10,7 @@ use Rattle.qasm_tokens.specs.Pieces.{piece_of}
 use Rattle.qasm_tokens.specs.Tokens.{token_of, open_after, tokens_from, tokens_of}
 use Rattle.qasm_tokens.specs.Scan.{after_token}
 use Rattle.qasm_tokens.specs.TokenForms.{IsLongest, HasNoForm}
-use Rattle.qasm_tokens.specs.TokenReading.{ReadsAs, at_end, no_form, bad_token, too_deep, goes_on}
+use Rattle.qasm_tokens.specs.TokenReading.{ReadsAs, at_end, no_form, bad_token, too_deep, with_rest}
 use Rattle.qasm_tokens.proofs.Pieces.{piece_stands}
 use Rattle.qasm_tokens.proofs.Steps as steps
 use Rattle.qasm_tokens.proofs.Longest.{longest_match, only_longest}
@@ -35,7 +35,7 @@ exact {at} {depth} at_end = nothing_left at depth
 exact {at} {depth} {text} (no_form some none) = steps.no_piece at depth text some (no_piece text none)
 exact {at} {depth} {text} (bad_token {fault = fault} piece longest bad) = steps.bad_token at depth text piece fault (only_longest text piece longest) bad
 exact {at} {depth} {text} (too_deep {fault = fault} piece token longest good deep) = steps.too_deep at depth text piece token fault (only_longest text piece longest) good deep
-exact {at} {depth} {text} (goes_on piece token deeper rest longest good open_there reads is) =
+exact {at} {depth} {text} (with_rest piece token deeper rest longest good open_there reads is) =
     (steps.reads_on at depth deeper text piece token (only_longest text piece longest) good open_there).reads ∙ ap (after_token at token) (exact reads) ∙ sym is
 
 abbrev Reading : ℕ → ℕ → List ℕ → Type 0
@@ -51,7 +51,7 @@ module _ (n : ℕ) (shorter : (at depth : ℕ) (text : List ℕ) → length text
   by_depth piece token (Ok deeper) e good there =
       let stands = piece_stands text piece e in
       let rest = shorter (at + piece.length) deeper (drop piece.length text) (omega (arith, length-drop piece.length text, stands.some)) in
-      goes_on piece token deeper (tokens_from (at + piece.length) deeper 0 (drop piece.length text)) (longest_is text (Some piece) e) good there rest (steps.reads_on at depth deeper text piece token e good there).reads
+      with_rest piece token deeper (tokens_from (at + piece.length) deeper 0 (drop piece.length text)) (longest_is text (Some piece) e) good there rest (steps.reads_on at depth deeper text piece token e good there).reads
 
   by_token : (piece : Piece) (token : Result (Option Token) TokenFault) → piece_of text ≡ Some piece → token_of at piece.shape (take piece.length text) ≡ token → Reading at depth text
   by_token piece (Err fault) e bad = as_is at depth text (Err fault) (steps.bad_token at depth text piece fault e bad) (bad_token piece (longest_is text (Some piece) e) bad)

@@ -15,7 +15,7 @@ use Rattle.qasm_tokens.specs.TokenForms.{IsLongest, HasNoForm}
 --   no_form    no front of the text is of any form
 --   bad_token  the longest match is no token, as its word is unknown or long or its number large
 --   too_deep   the longest match is a parenthesis after which too many are open
---   goes_on    the longest match is a token, or white space or a comment, and the bytes after it read so
+--   with_rest    the longest match is a token, or white space or a comment, and the bytes after it read so
 pub data ReadsAs : ℕ → ℕ → List ℕ → Result (List PlacedToken) TokenFault → Type 0 where
   at_end : {at depth : ℕ} → ReadsAs at depth [] (Ok [])
   no_form : {at depth : ℕ} {text : List ℕ} → 0 < length text → HasNoForm text → ReadsAs at depth text (Err (Lex at))
@@ -24,7 +24,7 @@ pub data ReadsAs : ℕ → ℕ → List ℕ → Result (List PlacedToken) TokenF
   too_deep : {at depth : ℕ} {text : List ℕ} {fault : TokenFault} (piece : Piece) (token : Option Token)
       → IsLongest text piece → token_of at piece.shape (take piece.length text) ≡ Ok token
       → open_after at depth piece.shape ≡ Err fault → ReadsAs at depth text (Err fault)
-  goes_on : {at depth : ℕ} {text : List ℕ} {answer : Result (List PlacedToken) TokenFault} (piece : Piece)
+  with_rest : {at depth : ℕ} {text : List ℕ} {answer : Result (List PlacedToken) TokenFault} (piece : Piece)
       (token : Option Token) (deeper : ℕ) (rest : Result (List PlacedToken) TokenFault) → IsLongest text piece
       → token_of at piece.shape (take piece.length text) ≡ Ok token → open_after at depth piece.shape ≡ Ok deeper
       → ReadsAs (at + piece.length) deeper (drop piece.length text) rest → answer ≡ after_token at token rest

@@ -51,7 +51,7 @@ compiled found words circuit trap rule None before now request writes =
     let plan = placed_by found rule Routed work (asked_for found words (compile circuit trap rule None) work request writes.done.is) in
     let setting = setting_of plan.trap plan.circuit plan.placement in
     let ends : IsTightTextOf setting writes.ending.text =
-    (subst (λ (w : Work). Ends w answers.Ok writes.ending) (routed_work setting work plan.goes_on) writes.done.ends).1.schedule in
+    (subst (λ (w : Work). Ends w answers.Ok writes.ending) (routed_work setting work plan.continues) writes.done.ends).1.schedule in
     record {
       circuit = plan.circuit;
       circuit_is = plan.circuit_is;
@@ -71,7 +71,7 @@ compiled found words circuit trap rule (Some exact) before now request writes =
     let plan = placed_by found rule (λ setting. Is (within_search setting exact)) work (asked_for found words (compile circuit trap rule (Some exact)) work request writes.done.is) in
     let setting = setting_of plan.trap plan.circuit plan.placement in
     let ends : EndsSearch setting exact.max exact.budget answers.Ok writes.ending =
-    subst (λ (w : Work). Ends w answers.Ok writes.ending) (sought_work setting exact work plan.goes_on).1 writes.done.ends in
+    subst (λ (w : Work). Ends w answers.Ok writes.ending) (sought_work setting exact work plan.continues).1 writes.done.ends in
     let least = least_written setting exact.max exact.budget writes.ending ends in
     let holds : Holds before.shelf now.shelf (Some exact.cert) (Some least.put) =
     subst (λ (put : Option (List ℕ)). Holds before.shelf now.shelf (Some exact.cert) put) least.put_is

@@ -66,8 +66,8 @@ no_judged work inputs (Err fault) done other e = absurd cc
 not_judged_for : (work : WorkOf) (found : Found) (done : Work) → ((setting : SettingValue) (steps : List (List Action)) → done ≡ work setting steps → ⊥) → JudgedFor work found (Ok done) → ⊥
 not_judged_for work found done other stages =
     let inputs = went _ _ done stages in
-    let bytes = went _ _ done inputs.goes_on in
-    no_judged work inputs.x bytes.goes_on.judgement done other bytes.goes_on.outcome_is
+    let bytes = went _ _ done inputs.continues in
+    no_judged work inputs.x bytes.continues.judgement done other bytes.continues.outcome_is
 
 same_checked : (a b : Checked) → ◌≡◌ {A = Result Checked Answer} (Ok a) (Ok b) → a ≡ b
 same_checked a b e = cc
@@ -116,12 +116,12 @@ verified_by : (certificate content : Option (List ℕ)) (inputs : Inputs) (setti
 verified_by certificate content inputs setting steps stages =
     let work = verified setting steps in
     let text = went _ _ work stages in
-    let first = went _ _ work text.goes_on in
-    let second = went _ _ work first.goes_on in
-    let third = went _ _ work second.goes_on in
+    let first = went _ _ work text.continues in
+    let second = went _ _ work first.continues in
+    let third = went _ _ work second.continues in
     let judges : Judges inputs.trap inputs.circuit text.x (Ok first.x) = subst (Judges inputs.trap inputs.circuit text.x) (checked_as first.is.judgement first.x first.is.outcome_is) first.is.is in
     let within = within_as (verify_too_large (setting_with inputs first.x) (length first.x.schedule)) first.x second.x second.is in
-    let last = subst (λ (c : Checked). CertifiedIn inputs c third.x (Ok work)) within.1 third.goes_on in
+    let last = subst (λ (c : Checked). CertifiedIn inputs c third.x (Ok work)) within.1 third.continues in
     certified_by inputs first.x text.x third.x setting steps last.judgement judges within.0 last.is last.outcome_is
 
 abbrev pub AcceptedAreLeast : Type 0
@@ -146,8 +146,8 @@ same_inputs a b e = cc
 inputs_right : (found : Found) (inputs : Inputs) → InputsOf found.circuit found.trap (Ok inputs) → IsTrap inputs.trap × IsCircuit inputs.circuit
 inputs_right found inputs are =
     let first = went _ _ inputs are in
-    let second = went _ _ inputs first.goes_on in
-    let same = same_inputs inputs (inputs_of first.x second.x) second.goes_on in
+    let second = went _ _ inputs first.continues in
+    let same = same_inputs inputs (inputs_of first.x second.x) second.continues in
     let right = trap_right found.trap second.x second.is in
     let well = circuit_right found.circuit first.x first.is in
     subst (λ (i : Inputs). IsTrap i.trap × IsCircuit i.circuit) (sym same) (right.0, well)
@@ -158,23 +158,23 @@ no_verified_load setting steps seed e = cc
 comes_least : AcceptedAreLeast → (found : Found) (asked : Asked) (setting : SettingValue) (steps : List (List Action)) → Comes found asked (Ok (verified setting steps)) → IsLeast setting steps
 comes_least accepted found (compile circuit trap rule None) setting steps comes =
     let plan = placed_by found rule Routed (verified setting steps) comes in
-    absurd (no_verified_make setting (setting_of plan.trap plan.circuit plan.placement) steps (routed_work (setting_of plan.trap plan.circuit plan.placement) (verified setting steps) plan.goes_on))
+    absurd (no_verified_make setting (setting_of plan.trap plan.circuit plan.placement) steps (routed_work (setting_of plan.trap plan.circuit plan.placement) (verified setting steps) plan.continues))
 comes_least accepted found (compile circuit trap rule (Some exact)) setting steps comes =
     let plan = placed_by found rule (λ s. Is (within_search s exact)) (verified setting steps) comes in
     absurd (no_verified_fewest setting (setting_of plan.trap plan.circuit plan.placement) steps exact.max exact.budget
-    ((sought_work (setting_of plan.trap plan.circuit plan.placement) exact (verified setting steps) plan.goes_on).1))
+    ((sought_work (setting_of plan.trap plan.circuit plan.placement) exact (verified setting steps) plan.continues).1))
 comes_least accepted found (check circuit trap schedule) setting steps comes = absurd (not_judged_for judged found (verified setting steps) (λ other more e. cc) comes)
 comes_least accepted found (verify circuit trap schedule cert) setting steps comes =
     let inputs = went _ _ (verified setting steps) comes in
     let right = inputs_right found inputs.x inputs.is in
-    least_by accepted inputs.x setting steps right.0 right.1 (verified_by found.certificate found.schedule inputs.x setting steps inputs.goes_on)
+    least_by accepted inputs.x setting steps right.0 right.1 (verified_by found.certificate found.schedule inputs.x setting steps inputs.continues)
 comes_least accepted found (report circuit trap schedule) setting steps comes = absurd (not_judged_for reported found (verified setting steps) (λ other more e. cc) comes)
 comes_least accepted found (load seed schedule) setting steps comes = absurd (no_verified_load setting steps seed comes)
 
 pub verified_least : AcceptedAreLeast → (found : Found) (words : List (List ℕ)) (setting : SettingValue) (steps : List (List Action)) → Prepares found words (Ok (verified setting steps)) → IsLeast setting steps
 verified_least accepted found words setting steps prepares =
     let asked = went _ _ (verified setting steps) prepares in
-    comes_least accepted found asked.x setting steps asked.goes_on
+    comes_least accepted found asked.x setting steps asked.continues
 
 -- ---- the limits of a search and of a verification
 
@@ -246,7 +246,7 @@ certified_verified found again words verify_words circuit trap circuit_again tra
     let work = fewest setting max budget in
     let plan = placed_by found rule next work (asked_for found words (compile circuit trap rule (Some exact)) work request prepares) in
     let place = setting_of plan.trap plan.circuit plan.placement in
-    let sought = sought_work place exact work plan.goes_on in
+    let sought = sought_work place exact work plan.continues in
     let same = same_fewest setting place max exact.max budget exact.budget sought.1 in
     let steps = is.schedule in
     let none = subst (λ (s : SettingValue). search_too_large s max ≡ None) (sym same.0) (subst (λ (n : ℕ). search_too_large place n ≡ None) (sym same.1) sought.0) in

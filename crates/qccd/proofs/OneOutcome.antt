@@ -7,7 +7,7 @@ use Rattle.run_answers.specs.declared.answer.Answer.{Answer}
 use Rattle.run_answers.specs.declared.answer.Answer.TheVariants as answers
 use Rattle.run_stages.specs.declared.inputs.Inputs.{Inputs}
 use Rattle.run_stages.specs.Work.{Work}
-use Rattle.run_stages.specs.Stages.{GoesOn, Then, Is}
+use Rattle.run_stages.specs.Stages.{Continues, Then, Is}
 use Rattle.run_stages.specs.Found.{Found}
 use Rattle.run_stages.specs.Prepare.{bytes_of, InputsOf, VerifiedIn, VerifiedOf, inputs_of, Comes, Prepares}
 use Rattle.run_stages.proofs.Stages.{IsOne, inputs_of-one}
@@ -18,14 +18,14 @@ use Rattle.run_stages.proofs.Certified.{AreSound, OneVerification, verified-one}
 
 -- ---- a stage after a first one, of which the value is known
 
-goes_on_one : {X Y : Type 0} (first : Result X Answer → Type 0) (next : X → Result Y Answer → Type 0) (given : Result X Answer) (a b : Result Y Answer) → ((x : X) → first (Ok x) → IsOne (next x))
-    → first given → GoesOn next given a → GoesOn next given b → a ≡ b
-goes_on_one first next (Ok x) a b one is p q = one x is a b p q
-goes_on_one first next (Err answer) a b one is p q = p ∙ sym q
+continues_one : {X Y : Type 0} (first : Result X Answer → Type 0) (next : X → Result Y Answer → Type 0) (given : Result X Answer) (a b : Result Y Answer) → ((x : X) → first (Ok x) → IsOne (next x))
+    → first given → Continues next given a → Continues next given b → a ≡ b
+continues_one first next (Ok x) a b one is p q = one x is a b p q
+continues_one first next (Err answer) a b one is p q = p ∙ sym q
 
 after-one : {X Y : Type 0} (first : Result X Answer → Type 0) (next : X → Result Y Answer → Type 0) → IsOne first → ((x : X) → first (Ok x) → IsOne (next x)) → IsOne (Then first next)
 after-one first next one one_next a b p q =
-    goes_on_one first next p.given a b one_next p.is p.goes_on (subst (λ given. GoesOn next given b) (sym (one p.given q.given p.is q.is)) q.goes_on)
+    continues_one first next p.given a b one_next p.is p.continues (subst (λ given. Continues next given b) (sym (one p.given q.given p.is q.is)) q.continues)
 
 -- ---- a verification
 
@@ -36,8 +36,8 @@ made_inputs a b e = cc
 sound_inputs : (found : Found) (inputs : Inputs) → InputsOf found.circuit found.trap (Ok inputs) → AreSound inputs
 sound_inputs found inputs are =
     let circuit = went _ _ inputs are in
-    let file = went _ _ inputs circuit.goes_on in
-    let same : inputs_of circuit.x file.x ≡ inputs = made_inputs (inputs_of circuit.x file.x) inputs file.goes_on in
+    let file = went _ _ inputs circuit.continues in
+    let same : inputs_of circuit.x file.x ≡ inputs = made_inputs (inputs_of circuit.x file.x) inputs file.continues in
     subst AreSound same ((trap_right found.trap file.x file.is).0, circuit_right found.circuit circuit.x circuit.is)
 
 verify-one : OneVerification → (found : Found) (circuit trap schedule cert : List ℕ) → IsOne (Comes found (verify circuit trap schedule cert))

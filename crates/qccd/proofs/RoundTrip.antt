@@ -65,10 +65,10 @@ made_as (Err fault) circuit e = absurd cc
 pub circuit_right : (content : Option (List ℕ)) (circuit : CircuitValue) → CircuitOf content (Ok circuit) → IsCircuit circuit
 circuit_right content circuit is =
     let bytes = went _ _ circuit is in
-    let program = went _ _ circuit bytes.goes_on in
+    let program = went _ _ circuit bytes.continues in
     let reading = subst (IsReading bytes.x) (read_as program.is.judgement program.x program.is.outcome_is) program.is.is in
     let well = well_formed bytes.x (tokens_of bytes.x) program.x refl reading in
-    circuit_is program.x circuit well (made_as (expanded program.x) circuit program.goes_on)
+    circuit_is program.x circuit well (made_as (expanded program.x) circuit program.continues)
 
 file_is : (read : Result FileValue TrapText) (file : FileValue) → Ok file ≡ or_refuse answers.Trap read → read ≡ Ok file
 file_is (Ok other) file e = cc
@@ -77,7 +77,7 @@ file_is (Err fault) file e = absurd cc
 pub trap_right : (content : Option (List ℕ)) (file : FileValue) → TrapOf content (Ok file) → IsTrap file.0 × FitsZones file.0 file.1
 trap_right content file is =
     let bytes = went _ _ file is in
-    let read = file_is (trap_of bytes.x) file bytes.goes_on in
+    let read = file_is (trap_of bytes.x) file bytes.continues in
     (right_trap bytes.x file.0 file.1 read, labels_fit bytes.x file read)
 
 -- ---- the text is read and judged
@@ -154,7 +154,7 @@ judged_again : (work : WorkOf) (asked : Asked) (before later : Found) (words che
 judged_again work asked before later words check_words circuit trap text rule setting comes request check_request prepares written same_circuit same_trap there few =
     let plan = placed_by before rule Routed (make setting) (asked_for before words (compile circuit trap rule None) (make setting) request prepares) in
     let setting_is : setting ≡ setting_of plan.trap plan.circuit plan.placement =
-    same_setting setting (setting_of plan.trap plan.circuit plan.placement) (routed_work (setting_of plan.trap plan.circuit plan.placement) (make setting) plan.goes_on) in
+    same_setting setting (setting_of plan.trap plan.circuit plan.placement) (routed_work (setting_of plan.trap plan.circuit plan.placement) (make setting) plan.continues) in
     let steps = written.is.schedule in
     let again = read_again before later rule Routed (make setting) plan setting steps text setting_is written.is.plays written.is.text_is same_circuit same_trap there few in
     record {

@@ -16,7 +16,7 @@ use Rattle.run_answers.specs.declared.answer.Answer.{Answer}
 use Rattle.run_answers.specs.declared.answer.Answer.TheVariants as answers
 use Rattle.run_stages.specs.declared.inputs.Inputs.{Inputs}
 use Rattle.run_stages.specs.Work.{Work, make, fewest}
-use Rattle.run_stages.specs.Stages.{GoesOn, Then, Is}
+use Rattle.run_stages.specs.Stages.{Continues, Then, Is}
 use Rattle.run_stages.specs.Found.{Found}
 use Rattle.run_stages.specs.Prepare.{CircuitOf, TrapOf, InputsOf, inputs_of, or_refuse, placed, as_routed, Routed, search_refusal, within_search, Comes, Prepares}
 
@@ -24,14 +24,14 @@ use Rattle.run_stages.specs.Prepare.{CircuitOf, TrapOf, InputsOf, inputs_of, or_
 pub record Went {X Y : Type 0} (first : Result X Answer → Type 0) (next : X → Result Y Answer → Type 0) (y : Y) : Type 0 where
   pub x : X
   pub is : first (Ok x)
-  pub goes_on : next x (Ok y)
+  pub continues : next x (Ok y)
 
-went_on : {X Y : Type 0} (first : Result X Answer → Type 0) (next : X → Result Y Answer → Type 0) (y : Y) (given : Result X Answer) → first given → GoesOn next given (Ok y) → Went first next y
-went_on first next y (Ok x) is goes_on = record { x = x; is = is; goes_on = goes_on }
-went_on first next y (Err answer) is goes_on = absurd cc
+went_on : {X Y : Type 0} (first : Result X Answer → Type 0) (next : X → Result Y Answer → Type 0) (y : Y) (given : Result X Answer) → first given → Continues next given (Ok y) → Went first next y
+went_on first next y (Ok x) is continues = record { x = x; is = is; continues = continues }
+went_on first next y (Err answer) is continues = absurd cc
 
 pub went : {X Y : Type 0} (first : Result X Answer → Type 0) (next : X → Result Y Answer → Type 0) (y : Y) → Then first next (Ok y) → Went first next y
-went first next y stages = went_on first next y stages.given stages.is stages.goes_on
+went first next y stages = went_on first next y stages.given stages.is stages.continues
 
 -- ---- what the words ask for
 
@@ -42,7 +42,7 @@ pub asked_for : (found : Found) (words : List (List ℕ)) (asked : Asked) (work 
 asked_for found words asked work request prepares =
     let first = went _ _ work prepares in
     let same : first.x ≡ asked = same_asked first.x asked (first.is ∙ ap (λ (o : Option Asked). ok_or o answers.Usage) request) in
-    subst (λ (a : Asked). Comes found a (Ok work)) same first.goes_on
+    subst (λ (a : Asked). Comes found a (Ok work)) same first.continues
 
 -- ---- a circuit, a trap and a placement, and what comes next
 
@@ -54,7 +54,7 @@ pub record PlacedBy (found : Found) (rule : PlaceRule) (next : SettingValue → 
   pub circuit_is : CircuitOf found.circuit (Ok circuit)
   pub trap_is : TrapOf found.trap (Ok (trap, labels))
   pub placement_is : place_by trap circuit rule labels ≡ Ok placement
-  pub goes_on : next (setting_of trap circuit placement) (Ok work)
+  pub continues : next (setting_of trap circuit placement) (Ok work)
 
 placed_as : (said : Result (List (List Qubit)) PlaceFault) (placement : List (List Qubit)) → Ok placement ≡ or_refuse answers.Place said → said ≡ Ok placement
 placed_as (Ok other) placement e = cc
@@ -71,10 +71,10 @@ pub placed_by : (found : Found) (rule : PlaceRule) (next : SettingValue → Resu
 placed_by found rule next work stages =
     let whole = went _ _ work stages in
     let first = went _ _ whole.x whole.is in
-    let second = went _ _ whole.x first.goes_on in
+    let second = went _ _ whole.x first.continues in
     let inputs : Inputs = inputs_of first.x second.x in
-    let same : whole.x ≡ inputs = same_inputs whole.x inputs second.goes_on in
-    let plan : From rule next inputs (Ok work) = subst (λ (i : Inputs). From rule next i (Ok work)) same whole.goes_on in
+    let same : whole.x ≡ inputs = same_inputs whole.x inputs second.continues in
+    let plan : From rule next inputs (Ok work) = subst (λ (i : Inputs). From rule next i (Ok work)) same whole.continues in
     let made = went _ _ work plan in
     record {
       circuit = first.x;
@@ -84,7 +84,7 @@ placed_by found rule next work stages =
       circuit_is = first.is;
       trap_is = second.is;
       placement_is = placed_as (place_by inputs.trap inputs.circuit rule inputs.labels) made.x made.is;
-      goes_on = made.goes_on;
+      continues = made.continues;
     }
 
 same_work : (a b : Work) → ◌≡◌ {A = Result Work Answer} (Ok a) (Ok b) → a ≡ b

@@ -3,8 +3,8 @@ use Rattle.std.specs.Prelude.{ℕ, List, false, Option, None}
 use Rattle.qc_base.specs.Shelf.{ShelfFacts}
 
 -- what a sink took of which nothing is known
-abbrev pub untold : Option (List ℕ)
-untold = None
+abbrev pub unknown_bytes : Option (List ℕ)
+unknown_bytes = None
 
 -- a shelf of which nothing is known; one count of faults serves for every name, and for reads and puts
 abbrev pub silent : ℕ → ShelfFacts

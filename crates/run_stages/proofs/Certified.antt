@@ -24,7 +24,7 @@ use Rattle.request_words.specs.declared.file.File.{File}
 use Rattle.request_words.specs.declared.file.File.TheVariants as files
 use Rattle.run_stages.specs.declared.inputs.Inputs.{Inputs}
 use Rattle.run_stages.specs.declared.ending.Ending.{Ending}
-use Rattle.run_stages.specs.Stages.{Is, Then, GoesOn}
+use Rattle.run_stages.specs.Stages.{Is, Then, Continues}
 use Rattle.run_stages.specs.Work.{Work, verified, written, Ends}
 use Rattle.step_vars.specs.Certifies.{Certifies}
 use Rattle.run_stages.specs.Prepare.{bytes_of, or_refuse, check_refusal, verify_refusal, setting_with, CheckedIn, within_verify, JudgesCertificate, as_certified, CertifiedIn, CertifiedOf, VerifiedIn}
@@ -52,9 +52,9 @@ within_is : (inputs : Inputs) (checked : Checked) (fault : Option VerifyFault) �
 within_is inputs checked fault small = ap (λ (f : Option VerifyFault). limits_of f checked) small
 
 -- the stages after circuit and trap, where the schedule is legal and within the limits
-legal_goes_on : (certificate : Option (List ℕ)) (inputs : Inputs) (text : List ℕ) (checked : Checked) (outcome : Result Work Answer) → IsWithinLimits inputs.trap inputs.circuit text checked
+legal_continues : (certificate : Option (List ℕ)) (inputs : Inputs) (text : List ℕ) (checked : Checked) (outcome : Result Work Answer) → IsWithinLimits inputs.trap inputs.circuit text checked
     → CertifiedOf certificate inputs checked outcome → VerifiedIn certificate inputs text outcome
-legal_goes_on certificate inputs text checked outcome legal next =
+legal_continues certificate inputs text checked outcome legal next =
     then_ok (CheckedIn inputs text) (λ c. Then (Is (within_verify inputs c)) (CertifiedOf certificate inputs)) checked outcome (checked_is inputs text checked legal.legal)
     (then_ok (Is (within_verify inputs checked)) (CertifiedOf certificate inputs) checked outcome (sym (within_is inputs checked None legal.small)) next)
 
@@ -126,7 +126,7 @@ verified_ok before now cert inputs text shown steps ending verifies exact shown_
     record {
       certificate = Some verifies.bytes;
       is_found = inl (λ known. sym (verifies.content known));
-      finishes = record { work = work; is = legal_goes_on (Some verifies.bytes) inputs text checked (Ok work) it.schedule next; ends = ends };
+      finishes = record { work = work; is = legal_continues (Some verifies.bytes) inputs text checked (Ok work) it.schedule next; ends = ends };
       only = λ known. λ outcome stages. record {
         work = work;
         is = ok_only before cert inputs text verifies.bytes checked steps outcome known (verifies.content known) exact it.schedule stages;
@@ -172,7 +172,7 @@ unverified before now cert inputs text faults.Failed verifies exact failed =
     record {
       certificate = None;
       is_found = inr (refl, failed refl);
-      finishes = inr (legal_goes_on None inputs text checked (Err answer) verifies.1 next);
+      finishes = inr (legal_continues None inputs text checked (Err answer) verifies.1 next);
       only = λ known. inr (λ outcome stages. refused_early stage (CertifiedIn inputs checked) answer (fixed-one (Err answer)) refl outcome (legal_next None inputs text checked outcome verifies.1 stages));
     }
 unverified before now cert inputs text (faults.Cert fault) verifies exact failed =
@@ -184,7 +184,7 @@ unverified before now cert inputs text (faults.Cert fault) verifies exact failed
     record {
       certificate = Some verifies.bytes;
       is_found = inl (λ known. sym (verifies.content known));
-      finishes = inr (legal_goes_on (Some verifies.bytes) inputs text checked (Err answer) it.schedule next);
+      finishes = inr (legal_continues (Some verifies.bytes) inputs text checked (Err answer) it.schedule next);
       only = λ known. inr (λ outcome stages. err_only before cert inputs text verifies.bytes checked fault outcome known (verifies.content known) exact it.schedule stages);
     }
 unverified before now cert inputs text faults.NoMemory verifies exact failed = verified_none before now cert inputs text
@@ -307,7 +307,7 @@ judged_as (Ok other) checked e = cc
 judged_as (Err fault) checked e = absurd cc
 
 after_check : OneVerification → (certificate : Option (List ℕ)) (inputs : Inputs) (text : List ℕ) (given : Result Checked Answer) (a b : Result Work Answer) → AreSound inputs → CheckedIn inputs text given
-    → GoesOn (λ c. Then (Is (within_verify inputs c)) (CertifiedOf certificate inputs)) given a → GoesOn (λ c. Then (Is (within_verify inputs c)) (CertifiedOf certificate inputs)) given b → a ≡ b
+    → Continues (λ c. Then (Is (within_verify inputs c)) (CertifiedOf certificate inputs)) given a → Continues (λ c. Then (Is (within_verify inputs c)) (CertifiedOf certificate inputs)) given b → a ≡ b
 after_check one certificate inputs text (Err answer) a b sound is p q = p ∙ sym q
 after_check one certificate inputs text (Ok checked) a b sound is p q =
     let judges = subst (Judges inputs.trap inputs.circuit text) (judged_as is.judgement checked is.outcome_is) is.is in
@@ -316,5 +316,5 @@ after_check one certificate inputs text (Ok checked) a b sound is p q =
 pub verified-one : OneVerification → (certificate : Option (List ℕ)) (inputs : Inputs) (text : List ℕ) → AreSound inputs → IsOne (VerifiedIn certificate inputs text)
 verified-one one certificate inputs text sound a b p q =
     let next = λ (c : Checked). Then (Is (within_verify inputs c)) (CertifiedOf certificate inputs) in
-    after_check one certificate inputs text p.given a b sound p.is p.goes_on
-    (subst (λ given. GoesOn next given b) (sym (checked-one inputs text p.given q.given p.is q.is)) q.goes_on)
+    after_check one certificate inputs text p.given a b sound p.is p.continues
+    (subst (λ given. Continues next given b) (sym (checked-one inputs text p.given q.given p.is q.is)) q.continues)

@@ -10,7 +10,7 @@ use Rattle.step_rules.specs.declared.action.Action.{Action}
 use Rattle.step_rules.specs.Setting.{SettingValue, setting_of}
 use Rattle.greedy_router.proofs.RoomAnswers.{one_answer as one_room}
 use Rattle.run_stages.specs.Work.{Work, judged, reported, loaded}
-use Rattle.run_stages.specs.Stages.{Is, Then, GoesOn}
+use Rattle.run_stages.specs.Stages.{Is, Then, Continues}
 use Rattle.run_stages.specs.Found.{Found}
 use Rattle.run_stages.specs.Prepare.{bytes_of, placed, within_search, JudgedFor, Comes}
 use Rattle.run_stages.specs.declared.ending.Ending.{Ending}
@@ -46,11 +46,11 @@ only_one stage (Err answer) one (inl memory) = inl memory
 only_one stage (Err answer) one (inr stops) = inr (λ outcome is. one outcome (Err answer) is stops)
 
 pub next_of : {X Y : Type 0} (first : Result X Answer → Type 0) (next : X → Result Y Answer → Type 0) (x : X) (outcome : Result Y Answer) → IsOne first → first (Ok x) → Then first next outcome → next x outcome
-next_of first next x outcome one is stages = subst (λ given. GoesOn next given outcome) (one stages.given (Ok x) stages.is is) stages.goes_on
+next_of first next x outcome one is stages = subst (λ given. Continues next given outcome) (one stages.given (Ok x) stages.is is) stages.continues
 
 -- a stage that refuses
 pub refused_early : {X Y : Type 0} (first : Result X Answer → Type 0) (next : X → Result Y Answer → Type 0) (answer : Answer) → IsOne first → first (Err answer) → (outcome : Result Y Answer) → Then first next outcome → outcome ≡ Err answer
-refused_early first next answer one is outcome stages = subst (λ given. GoesOn next given outcome) (one stages.given (Err answer) stages.is is) stages.goes_on
+refused_early first next answer one is outcome stages = subst (λ given. Continues next given outcome) (one stages.given (Err answer) stages.is is) stages.continues
 
 pub only_then : {X : Type 0} (first : Result X Answer → Type 0) (next : X → Result Work Answer → Type 0) (x : X) (result : Result Ending Answer) → IsOne first → first (Ok x) → IsOnly (next x) result → IsOnly (Then first next) result
 only_then first next x (Ok ending) one is only = λ outcome stages. only outcome (next_of first next x outcome one is stages)

@@ -5,7 +5,7 @@ use Rattle.run_answers.specs.declared.answer.Answer.{Answer}
 use Rattle.run_answers.specs.declared.answer.Answer.TheVariants as answers
 use Rattle.run_stages.specs.declared.ending.Ending.{Ending}
 use Rattle.run_stages.specs.Work.{Work}
-use Rattle.run_stages.specs.Stages.{GoesOn, Then, As}
+use Rattle.run_stages.specs.Stages.{Continues, Then, As}
 use Rattle.run_stages.specs.Prepare.{CircuitOf, TrapOf, InputsOf}
 use Rattle.run_stages.specs.Loading.{Reached, Finishes}
 
@@ -15,13 +15,13 @@ use Rattle.run_stages.specs.Loading.{Reached, Finishes}
 abbrev pub IsOne : {X : Type 0} → (Result X Answer → Type 0) → Type 0
 IsOne {X} stage = (a b : Result X Answer) → stage a → stage b → a ≡ b
 
-goes_on-one : {X Y : Type 0} (next : X → Result Y Answer → Type 0) (given : Result X Answer) (a b : Result Y Answer) → ((x : X) → IsOne (next x)) → GoesOn next given a → GoesOn next given b → a ≡ b
-goes_on-one next (Ok x) a b one p q = one x a b p q
-goes_on-one next (Err answer) a b one p q = p ∙ sym q
+continues-one : {X Y : Type 0} (next : X → Result Y Answer → Type 0) (given : Result X Answer) (a b : Result Y Answer) → ((x : X) → IsOne (next x)) → Continues next given a → Continues next given b → a ≡ b
+continues-one next (Ok x) a b one p q = one x a b p q
+continues-one next (Err answer) a b one p q = p ∙ sym q
 
 pub then-one : {X Y : Type 0} (first : Result X Answer → Type 0) (next : X → Result Y Answer → Type 0) → IsOne first → ((x : X) → IsOne (next x)) → IsOne (Then first next)
 then-one first next one one_next a b p q =
-    goes_on-one next p.given a b one_next p.goes_on (subst (λ given. GoesOn next given b) (sym (one p.given q.given p.is q.is)) q.goes_on)
+    continues-one next p.given a b one_next p.continues (subst (λ given. Continues next given b) (sym (one p.given q.given p.is q.is)) q.continues)
 
 pub as-one : {R X : Type 0} (judges : R → Type 0) (see : R → Result X Answer) → ((a b : R) → judges a → judges b → a ≡ b) → IsOne (As judges see)
 as-one judges see one a b p q = p.outcome_is ∙ ap see (one p.judgement q.judgement p.is q.is) ∙ sym q.outcome_is
@@ -38,10 +38,10 @@ inputs_of-one circuit_file trap_file = then-one _ _ (circuit_of-one circuit_file
 -- ---- one stage after another
 
 pub then_ok : {X Y : Type 0} (first : Result X Answer → Type 0) (next : X → Result Y Answer → Type 0) (x : X) (outcome : Result Y Answer) → first (Ok x) → next x outcome → Then first next outcome
-then_ok first next x outcome is more = record { given = Ok x; is = is; goes_on = more }
+then_ok first next x outcome is more = record { given = Ok x; is = is; continues = more }
 
 pub then_err : {X Y : Type 0} (first : Result X Answer → Type 0) (next : X → Result Y Answer → Type 0) (answer : Answer) → first (Err answer) → Then first next (Err answer)
-then_err first next answer is = record { given = Err answer; is = is; goes_on = refl }
+then_err first next answer is = record { given = Err answer; is = is; continues = refl }
 
 -- the same where memory may run out
 pub reached_ok : {X Y : Type 0} (first : Result X Answer → Type 0) (next : X → Result Y Answer → Type 0) (x : X) (outcome : Result Y Answer) → Reached first (Ok x) → Reached (next x) outcome → Reached (Then first next) outcome

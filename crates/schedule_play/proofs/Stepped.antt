@@ -66,11 +66,11 @@ pub record Goes (setting : SettingValue) (past : List (List Action)) (step : Lis
   pub state : IsStateBefore setting (before_of past step) places early marks footprints
   pub well : StepIsWell setting past step
 
-pub goes_on : (setting : SettingValue) (past : List (List Action)) (step : List Action) (i n : ℕ) (d : Action) (places : List (List Ion)) (early marks early_now marks_now : List Bool) (footprints now : List Footprint) (works : Footprint) →
+pub continues : (setting : SettingValue) (past : List (List Action)) (step : List Action) (i n : ℕ) (d : Action) (places : List (List Ion)) (early marks early_now marks_now : List Bool) (footprints now : List Footprint) (works : Footprint) →
     n ≡ i → i < length step → Goes setting past (take i step) places early marks footprints
     → ((action : Action) → slice_get step n ≡ Some action → IsWell setting (before_of past (take n step)) action × (spots works ≡ footprint setting.trap action))
     → early_now ≡ early → marks_now ≡ marked marks (get_or step i d) → now ≡ footprints ++ works ∷ [] → Goes setting past (take (i + 1) step) places early_now marks_now now
-goes_on setting past step i n d places early marks early_now marks_now footprints now works count h goes judged same marked_is grown =
+continues setting past step i n d places early marks early_now marks_now footprints now works count h goes judged same marked_is grown =
     let action : Action = get_or step i d in
     let at : slice_get step n ≡ Some action = ap (slice_get step) count ∙ slice_get-get_or step i d h in
     let it = judged action at in

@@ -63,14 +63,14 @@ pub record Goes (trap : TrapValue) (row : ℕ) (before : List Link) (join : Join
   pub passes : Passes trap before join link
   pub rest : joins_from trap (row + 1) (before ++ link ∷ []) joins ≡ Ok answer
 
-goes_on : (trap : TrapValue) (row : ℕ) (before : List Link) (join : JoinPart) (joins : List JoinPart) (answer : List Link) (first : Result Link TrapFault) → join_of trap row before join ≡ first
+continues : (trap : TrapValue) (row : ℕ) (before : List Link) (join : JoinPart) (joins : List JoinPart) (answer : List Link) (first : Result Link TrapFault) → join_of trap row before join ≡ first
     → (first >>= (λ link. joins_from trap (row + 1) (before ++ link ∷ []) joins)) ≡ Ok answer → Goes trap row before join joins answer
-goes_on trap row before join joins answer (Ok link) is e = record { link = link; passes = join_passes trap row before join link is; rest = e }
-goes_on trap row before join joins answer (Err fault) is e = absurd (err_ok fault answer e)
+continues trap row before join joins answer (Ok link) is e = record { link = link; passes = join_passes trap row before join link is; rest = e }
+continues trap row before join joins answer (Err fault) is e = absurd (err_ok fault answer e)
 
 pub joins_go : (trap : TrapValue) (row : ℕ) (before : List Link) (join : JoinPart) (joins : List JoinPart) (answer : List Link) → joins_from trap row before (join ∷ joins) ≡ Ok answer → Goes trap row before join joins answer
 unfolding joins_from
-joins_go trap row before join joins answer e = goes_on trap row before join joins answer (join_of trap row before join) refl e
+joins_go trap row before join joins answer e = continues trap row before join joins answer (join_of trap row before join) refl e
 
 pub joins_end : (trap : TrapValue) (row : ℕ) (before answer : List Link) → joins_from trap row before [] ≡ Ok answer → before ≡ answer
 unfolding joins_from

@@ -10,8 +10,8 @@ use Rattle.sat_base.specs.Certificate.{head_text, lines_text}
 use Rattle.derivation_check.specs.declared.cert_fault.CertFault.{CertFault}
 use Rattle.derivation_check.specs.declared.cert_fault.CertFault.TheVariants as certs
 use Rattle.derivation_check.specs.Faults.{HasFault, Answers, IsSmall}
-use Rattle.derivation_check.specs.Progress.{Progress, WasFed, StandsAt}
-use Rattle.derivation_check.proofs.Feeding.{faults_stay, goes_on}
+use Rattle.derivation_check.specs.Progress.{Progress, WasFed, IsAfter}
+use Rattle.derivation_check.proofs.Feeding.{faults_stay, has_taken}
 use Rattle.derivation_check.proofs.Accepted.{AreGood-accepted, HaveForm-accepted}
 use Rattle.step_rules.specs.Setting.{SettingValue}
 use Rattle.step_vars.specs.declared.encoding.Encoding.{Encoding}
@@ -201,7 +201,7 @@ both_parts len front = sym (take-append-drop len front)
 
 fault_at : (setting : SettingValue) (encoding : Encoding) (last : ℕ) (bytes : List ℕ) (checker : Progress) (fault : CertFault) → checker.stopped ≡ Some fault → WasFed (task_for setting encoding last) bytes checker
     → HasFault (task_for setting encoding last) bytes fault
-fault_at setting encoding last bytes checker fault is fed = subst (StandsAt (task_for setting encoding last) bytes checker) is fed
+fault_at setting encoding last bytes checker fault is fed = subst (IsAfter (task_for setting encoding last) bytes checker) is fed
 
 -- the rest of the front has a fault
 pub front_fault : (shelf : ShelfFacts) (name : List ℕ) (setting : SettingValue) (steps last : ℕ) (encoding : Encoding) (len : ℕ) (front piece : List ℕ) (old new : Progress) (goal : ℕ) (fault : CertFault)
@@ -218,14 +218,14 @@ pub is_feeding : (shelf : ShelfFacts) (name : List ℕ) (setting : SettingValue)
     → IsAfterHead shelf name setting steps last encoding len front old goal → piece ≡ drop len front
     → (WasFed (task_for setting encoding last) [] old → WasFed (task_for setting encoding last) ([] ++ piece) new) → new.stopped ≡ None
     → IsFeeding shelf name (task_for setting encoding last) (take len front) (drop len front) new (length front)
-is_feeding shelf name setting steps last encoding len front piece old new goal is rest fed goes_on =
+is_feeding shelf name setting steps last encoding len front piece old new goal is rest fed no_fault =
     let head = head_at shelf name setting steps last encoding len front old goal is in
     let short = asked_head encoding steps is.few in
     let size = ap length is.head in
     let own = ap length head in
     record {
       fed = subst (λ (xs : List ℕ). WasFed (task_for setting encoding last) xs new) rest (fed is.ready.fed);
-      goes_on = goes_on;
+      no_fault = no_fault;
       at_place = ap length (both_parts len front) ∙ length-append (take len front) (drop len front);
       limit = omega (arith, short, size, own);
       content = subst (BeginsContent shelf name) (both_parts len front) is.content;

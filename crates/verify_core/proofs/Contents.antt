@@ -7,7 +7,7 @@ use Rattle.qc_base.specs.Shelf.{ShelfFacts, IsContent}
 use Rattle.qc_base.proofs.Reading.{IsFront, IsPlaced, front_continues, front_is_whole}
 use Rattle.derivation_check.specs.declared.cert_fault.CertFault.{CertFault}
 use Rattle.derivation_check.specs.Faults.{Task, HasFault}
-use Rattle.derivation_check.specs.Progress.{Progress, WasFed, StandsAt}
+use Rattle.derivation_check.specs.Progress.{Progress, WasFed, IsAfter}
 use Rattle.verify_core.specs.Reading.{BeginsContent, IsFeeding, WasFedAll, HasFaultLater}
 
 same_some : (a b : List ℕ) (found : Option (List ℕ)) → found ≡ Some a → found ≡ Some b → a ≡ b
@@ -48,7 +48,7 @@ one_content shelf name bytes other known is content = let here = content known i
 pub record FeedsOn (shelf : ShelfFacts) (name : List ℕ) (task : Task) (head bytes : List ℕ) (checker : Progress) (from : ℕ) : Type 0 where
   pub more : List ℕ
   pub fed : WasFed task (bytes ++ more) checker
-  pub goes_on : checker.stopped ≡ None
+  pub no_fault : checker.stopped ≡ None
   pub at_place : from ≡ length (head ++ (bytes ++ more))
   pub front : IsFront shelf name (head ++ (bytes ++ more))
 
@@ -61,7 +61,7 @@ feeds_first shelf name task head bytes checker from is =
     record {
       more = [];
       fed = subst (λ (xs : List ℕ). WasFed task xs checker) none is.fed;
-      goes_on = is.goes_on;
+      no_fault = is.no_fault;
       at_place = place ∙ sym (length-append head bytes) ∙ ap (λ (xs : List ℕ). length (head ++ xs)) none;
       front = subst (λ (xs : List ℕ). IsFront shelf name (head ++ xs)) none (begins_front shelf name (head ++ bytes) is.content);
     }
@@ -80,7 +80,7 @@ front_after shelf name task head bytes checker from count buf feeds bound placed
 pub feeds_more : (shelf : ShelfFacts) (name : List ℕ) (task : Task) (head bytes : List ℕ) (old new : Progress) (from next count : ℕ) (buf : List ℕ) → FeedsOn shelf name task head bytes old from
     → count ≤ length buf → IsPlaced shelf name from count buf → ((bytes : List ℕ) → WasFed task bytes old → WasFed task (bytes ++ take count buf) new) → new.stopped ≡ None → next ≡ from + count
     → FeedsOn shelf name task head bytes new next
-feeds_more shelf name task head bytes old new from next count buf feeds bound placed fed goes_on is =
+feeds_more shelf name task head bytes old new from next count buf feeds bound placed fed no_fault is =
     let piece = take count buf in
     let all = head ++ (bytes ++ feeds.more) in
     let size : length piece ≡ count = length-take-le count buf bound in
@@ -89,7 +89,7 @@ feeds_more shelf name task head bytes old new from next count buf feeds bound pl
     record {
       more = feeds.more ++ piece;
       fed = subst (λ (xs : List ℕ). WasFed task xs new) (append_assoc bytes feeds.more piece) (fed (bytes ++ feeds.more) feeds.fed);
-      goes_on = goes_on;
+      no_fault = no_fault;
       at_place = let e : from + count ≡ length (all ++ piece) = omega (arith, place, size, length-append all piece) in is ∙ e ∙ whole;
       front = front_after shelf name task head bytes old from count buf feeds bound placed;
     }
@@ -99,12 +99,12 @@ pub feeds_all : (shelf : ShelfFacts) (name : List ℕ) (task : Task) (head bytes
 feeds_all shelf name task head bytes checker from count buf feeds none room placed = record {
   more = feeds.more;
   fed = feeds.fed;
-  goes_on = feeds.goes_on;
+  no_fault = feeds.no_fault;
   content = front_is_whole shelf name (head ++ (bytes ++ feeds.more)) buf count feeds.front none room (subst (λ (n : ℕ). IsPlaced shelf name n count buf) feeds.at_place placed);
 }
 
 fault_at : (task : Task) (bytes : List ℕ) (checker : Progress) (fault : CertFault) → checker.stopped ≡ Some fault → WasFed task bytes checker → HasFault task bytes fault
-fault_at task bytes checker fault is fed = subst (StandsAt task bytes checker) is fed
+fault_at task bytes checker fault is fed = subst (IsAfter task bytes checker) is fed
 
 pub feeds_fault : (shelf : ShelfFacts) (name : List ℕ) (task : Task) (head bytes : List ℕ) (old new : Progress) (from count : ℕ) (buf : List ℕ) (fault : CertFault) → FeedsOn shelf name task head bytes old from
     → count ≤ length buf → IsPlaced shelf name from count buf → ((bytes : List ℕ) → WasFed task bytes old → WasFed task (bytes ++ take count buf) new) → new.stopped ≡ Some fault

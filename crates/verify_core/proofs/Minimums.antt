@@ -65,7 +65,7 @@ pub is_ready : (minimum : MinimumValue) (setting : SettingValue) (encoding : Enc
     → formula ≡ encoding_of setting encoding bound → count ≡ vars_up_to setting encoding bound → literal ≡ goal_literal setting encoding bound → goal ≡ literal.var → 1 ≤ goal → goal < 2 ^ 31
     → count < 2 ^ 31 → length formula ≤ 2 ^ 62 → head ≡ length (head_text (head_of encoding (asked (suc bound)))) → WasFed (task_of formula count (LIMIT - head)) [] checker → checker.stopped ≡ None
     → IsReady minimum.setting encoding bound checker goal
-is_ready minimum setting encoding bound count head goal formula literal checker same clauses vars is at from_1 below small few long fed goes_on =
+is_ready minimum setting encoding bound count head goal formula literal checker same clauses vars is at from_1 below small few long fed no_fault =
     let limit = LIMIT - length (head_text (head_of encoding (asked (suc bound)))) in
     let task : task_of formula count (LIMIT - head) ≡ task_for setting encoding bound =
     ap (λ (xs : List (List Literal)). task_of xs count (LIMIT - head)) clauses ∙ ap (λ (n : ℕ). task_of (encoding_of setting encoding bound) n (LIMIT - head)) vars
@@ -73,7 +73,7 @@ is_ready minimum setting encoding bound count head goal formula literal checker 
     let whole = ap length clauses in
     subst (λ (it : SettingValue). IsReady it encoding bound checker goal) same (record {
       fed = subst (λ (it : Task). WasFed it [] checker) task fed;
-      goes_on = goes_on;
+      no_fault = no_fault;
       small = record { vars = omega (arith, small, vars); lines = omega (arith, few, whole) };
       is_goal = ap positive_of at ∙ positive_is literal setting encoding bound is;
       from_1 = from_1;

@@ -48,7 +48,7 @@ IsEnough shelf name enough bytes = IsContent shelf name bytes ⊎ (enough ≤ le
 pub record IsFeeding (shelf : ShelfFacts) (name : List ℕ) (task : Task) (head bytes : List ℕ)
     (checker : Progress) (from : ℕ) : Type 0 where
   pub fed : WasFed task bytes checker
-  pub goes_on : checker.stopped ≡ None
+  pub no_fault : checker.stopped ≡ None
   pub at_place : from ≡ length head + length bytes
   pub limit : length head + task.limit ≡ LIMIT
   pub content : BeginsContent shelf name (head ++ bytes)
@@ -58,7 +58,7 @@ pub record WasFedAll (shelf : ShelfFacts) (name : List ℕ) (task : Task) (head 
     (checker : Progress) : Type 0 where
   pub more : List ℕ
   pub fed : WasFed task (bytes ++ more) checker
-  pub goes_on : checker.stopped ≡ None
+  pub no_fault : checker.stopped ≡ None
   pub content : IsContent shelf name (head ++ (bytes ++ more))
 
 -- some more bytes of the content have a fault
@@ -72,7 +72,7 @@ pub record HasFaultLater (shelf : ShelfFacts) (name : List ℕ) (task : Task) (h
 pub record IsReady (setting : SettingValue) (encoding : Encoding) (bound : ℕ) (checker : Progress) (goal : ℕ)
     : Type 0 where
   pub fed : WasFed (task_for setting encoding bound) [] checker
-  pub goes_on : checker.stopped ≡ None
+  pub no_fault : checker.stopped ≡ None
   pub small : IsSmallTask (task_for setting encoding bound)
   pub is_goal : positive_of goal ≡ goal_literal setting encoding bound
   pub from_1 : 1 ≤ goal

@@ -1,5 +1,5 @@
 use Rattle.std.proofs.lemmas.Bool.{MatchBool-at_true, MatchBool-at_false}
-use Rattle.derivation_check.proofs.Resolved.{begins, goes_on, stops, ends}
+use Rattle.derivation_check.proofs.Resolved.{begins, takes_next, stops, ends}
 use Rattle.derivation_check.proofs.judge.resolves.Goals as goal
 
 pub loop-i-init : goal.loop-i-init
@@ -12,7 +12,7 @@ returns-then-not-branch c = (
 )
 
 pub loop-i-preserved : goal.loop-i-preserved
-loop-i-preserved c = goes_on c.args.formula.now c.args.hints.now c.loop-i.i _ c.clause-in-loop-i.result.now c.loop-i.resolution c.join.new.self c.loop-i-test.true c.clause-in-loop-i.ensures.clause
+loop-i-preserved c = takes_next c.args.formula.now c.args.hints.now c.loop-i.i _ c.clause-in-loop-i.result.now c.loop-i.resolution c.join.new.self c.loop-i-test.true c.clause-in-loop-i.ensures.clause
     (MatchBool-at_true _ _ c.if-not-branch.false c.in_ok-join.ensures.joins) c.loop-i.invariant
 
 pub returns : goal.returns

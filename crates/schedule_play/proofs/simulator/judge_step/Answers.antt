@@ -1,7 +1,7 @@
 use Rattle.std.proofs.Common.{◌≡◌, ◌+◌, [], ◌∷◌, ◌++◌, length, take, ap, ◌∙◌, arith, length-append}
 use Rattle.std.proofs.lemmas.Result.{err_from_is_err_and}
 use Rattle.step_rules.specs.Setting.{SettingValue}
-use Rattle.schedule_play.proofs.Stepped.{explained_step, Goes, goes_on, all_well}
+use Rattle.schedule_play.proofs.Stepped.{explained_step, Goes, continues, all_well}
 use Rattle.schedule_play.proofs.simulator.judge_step.Goals as goal
 
 pub returns-in_err-works-clause-fault : goal.returns-in_err-works-clause-fault
@@ -18,7 +18,7 @@ loop-action-preserved c =
     let i = c.loop-action.action-index in
     let grown : c.push.new.self.items ≡ c.loop-action.footprints.items ++ c.in_ok-works.works ∷ [] = c.in_ok-push.ensures.items in
     let goes : Goes setting c.args.past.now (take (i + 1) c.args.step.now) c.args.config.now.lists c.note.new.self.earlier.items c.note.new.self.done.items c.push.new.self.items =
-    goes_on setting c.args.past.now c.args.step.now i (length c.deref.result.now) _ c.args.config.now.lists c.loop-action.progress.earlier.items c.loop-action.progress.done.items c.note.new.self.earlier.items c.note.new.self.done.items
+    continues setting c.args.past.now c.args.step.now i (length c.deref.result.now) _ c.args.config.now.lists c.loop-action.progress.earlier.items c.loop-action.progress.done.items c.note.new.self.earlier.items c.note.new.self.done.items
     c.loop-action.footprints.items c.push.new.self.items c.in_ok-works.works (ap length c.deref.ensures.value ∙ c.loop-action.invariant.count) c.loop-action-test.true
     (record { state = c.loop-action.invariant.state; well = c.loop-action.invariant.well }) c.in_ok-works.ensures.well (ap (λ v. v.items) c.note.ensures.earlier) c.note.ensures.done grown in
     record {

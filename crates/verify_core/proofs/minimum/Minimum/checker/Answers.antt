@@ -66,4 +66,4 @@ returns-clause-ready c = λ bound e.
     let few : length c.in_ok-formula.formula ≤ 2 ^ 62 = omega (arith, c.if-len-gt-CLAUSES.false, c.len.ensures) in
     subst (λ (n : ℕ). IsReady minimum.setting encoding n c.new-checker.result c.var-goal.result) is
     (is_ready minimum minimum.setting encoding last c.count.result c.args.head c.var-goal.result c.in_ok-formula.formula c.lit.result c.new-checker.result refl clauses count literal
-    c.var-goal.ensures.var c.var-goal.ensures.from_1 c.var-goal.ensures.below c.count.ensures.small few head c.new-checker.ensures.fed c.new-checker.ensures.goes_on)
+    c.var-goal.ensures.var c.var-goal.ensures.from_1 c.var-goal.ensures.below c.count.ensures.small few head c.new-checker.ensures.fed c.new-checker.ensures.no_fault)
