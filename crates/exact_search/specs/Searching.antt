@@ -57,7 +57,8 @@ RefuteLower setting bound derived = (lower : ℕ) → lower < bound
 -- no clause is after one that refutes the goal
 abbrev pub NoneAfterRefuting : Literal → List (List Literal) → Type 0
 NoneAfterRefuting goal [] = Unit {0}
-NoneAfterRefuting goal (clause ∷ clauses) = (Refutes goal clause → clauses ≡ []) × NoneAfterRefuting goal clauses
+NoneAfterRefuting goal (clause ∷ clauses) =
+    (Refutes goal clause → clauses ≡ []) × NoneAfterRefuting goal clauses
 
 -- The lines that were derived before the bound was added, within the budget. One that refutes this bound too is
 -- the last.

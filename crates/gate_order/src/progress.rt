@@ -125,7 +125,8 @@ impl Progress {
         ensures state { OnOk result (IsStateOf circuit.now nearest.now self.new) }
         ensures room { OnOk result (HasRoom nearest.now self.new) }
         ensures next { OnOk result (vec_len self.new.flags ≡ op.0 + 1) }
-        ensures done { OnOk result (done_in circuit.now self.new.settled.items ≡ done_in circuit.now self.old.settled.items) }
+        ensures done { OnOk result (done_in circuit.now self.new.settled.items
+            ≡ done_in circuit.now self.old.settled.items) }
     {
         self.seen.push(0)?;
         self.flags.push(false)?;
@@ -203,7 +204,8 @@ impl Progress {
         requires all { IsSettledAll circuit.now nearest.now after.now self.old }
         requires ready { IsAmong self.old.ready.items op.0 }
         ensures all { IsSettledAll circuit.now nearest.now after.now self.new }
-        ensures done { done_in circuit.now self.new.settled.items ≡ done_in circuit.now self.old.settled.items ++ op ∷ [] }
+        ensures done { done_in circuit.now self.new.settled.items
+            ≡ done_in circuit.now self.old.settled.items ++ op ∷ [] }
     {
         let head = self.settled.len();
         self.take(op);

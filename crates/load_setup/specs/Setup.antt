@@ -84,7 +84,8 @@ gate_of word next = cx (control_of word) (target_of (control_of word) next)
 unfoldable pub gates_from : ℕ → ℕ → List Op
 gates_from zero state = []
 gates_from (suc count) state =
-    gate_of (word_after state) (word_after (next_state state)) ∷ gates_from count (next_state (next_state state))
+    gate_of (word_after state) (word_after (next_state state))
+    ∷ gates_from count (next_state (next_state state))
 
 abbrev pub sixty_qubits : Reg
 sixty_qubits = record { name = codes "q"; size = 60 }

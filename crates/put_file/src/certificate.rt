@@ -11,7 +11,8 @@ use sat_base::Head;
 use std::alloc::Global;
 use std::marker::Model;
 
-/// A certificate: a head, and so many first derived lines of a log over so many first axioms. Contracts see its bytes.
+/// A certificate: a head, and so many first derived lines of a log over so many first axioms. Contracts see its
+/// bytes.
 #[derive(Debug, Drop)]
 pub struct Certificate {
     log: Log,
@@ -47,7 +48,8 @@ fn count_left(printer: &mut Printer) -> Option<u64>
 // Whether 64 bits can count the bytes of these lines' text. More would need more memory than a machine has.
 fn count(alloc: Global, log: &Log, head: Head, axioms: u64, lines: u64) -> Result<u64, NoMemory>
     requires { Covers log.now axioms lines }
-    ensures { IfOk result (λ count. count ≡ length (certificate_text head axioms (first_lines log.now axioms lines))) }
+    ensures { IfOk result (λ count.
+        count ≡ length (certificate_text head axioms (first_lines log.now axioms lines))) }
 {
     match log.printer(alloc, head, axioms, lines) {
         Ok(mut printer) => match count_left(&mut printer) {
@@ -68,7 +70,8 @@ impl Certificate {
         lines: u64,
     ) -> Result<Certificate, NoMemory>
         requires { Covers log axioms lines }
-        ensures { IfOk result (λ certificate. certificate ≡ certificate_text head axioms (first_lines log axioms lines)) }
+        ensures { IfOk result (λ certificate.
+            certificate ≡ certificate_text head axioms (first_lines log axioms lines)) }
     {
         let _count = count(alloc, &log, head, axioms, lines)?;
         Ok(Certificate {

@@ -67,7 +67,8 @@ impl<'a> Request<'a> {
 }
 
 fn compile_to<'a>(circuit: &'a str, trap: &'a str, given: Given<'a>) -> Option<Request<'a>>
-    ensures { option_map asked_of result ≡ compile_to circuit.now trap.now (options_of given.entry) (options_of given.entry).cert }
+    ensures { option_map asked_of result
+        ≡ compile_to circuit.now trap.now (options_of given.entry) (options_of given.entry).cert }
 {
     let rule = given.rule.unwrap_or(PlaceRule::Declared);
     let exact = match given.cert {
@@ -111,7 +112,8 @@ fn compile_of(words: &[String]) -> Option<Request<'_>>
 
 /// The words that name a circuit, a trap and a schedule.
 fn three_files(words: &[String]) -> Option<(&str, &str, &str)>
-    ensures { (asked : List ℕ → List ℕ → List ℕ → Asked) → option_map (λ f. asked f.0.now f.1.now f.2.now) result ≡ three_files asked (texts words.now) }
+    ensures { (asked : List ℕ → List ℕ → List ℕ → Asked)
+        → option_map (λ f. asked f.0.now f.1.now f.2.now) result ≡ three_files asked (texts words.now) }
 {
     if words.len() != 3 {
         return None;

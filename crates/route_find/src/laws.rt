@@ -7,6 +7,7 @@ ghost use Rattle.route_find.specs.Walks.{IsReachable};
 /// Each channel has one that leads back, so walks lead back, and walks can be joined.
 pub fn walks_lead_back()
     ensures back { (trap : TrapValue) (from to : ℕ) → IsReachable trap from to → IsReachable trap to from }
-    ensures joined { (trap : TrapValue) (from through to : ℕ) → IsReachable trap from through → IsReachable trap through to
+    ensures joined { (trap : TrapValue) (from through to : ℕ) → IsReachable trap from through
+        → IsReachable trap through to
         → IsReachable trap from to }
 {}

@@ -18,7 +18,8 @@ piece_text (Text text) = text.now
 piece_text (Number number) = decimal number
 piece_text (Name name) = name_text name.now
 
--- the line of these texts: one after another, after the program's name and with a line end; without texts there is none
+-- the line of these texts: one after another, after the program's name and with a line end; without texts
+-- there is none
 abbrev pub line_text : List (List ℕ) → List ℕ
 line_text [] = []
 line_text (text ∷ texts) = codes "qccd: " ++ flat_map (λ t. t) (text ∷ texts) ++ codes "\n"

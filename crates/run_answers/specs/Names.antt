@@ -16,7 +16,10 @@ pub record Names : Type 0 where
 
 -- what the names that are handed over refer to
 abbrev pub names_of : Lent → Names
-names_of names = record { circuit = option_map (λ circuit. circuit.now) names.circuit; trap = option_map (λ trap. trap.now) names.trap }
+names_of names = record {
+  circuit = option_map (λ circuit. circuit.now) names.circuit;
+  trap = option_map (λ trap. trap.now) names.trap;
+}
 
 -- the name of the zone of that number in the trap
 abbrev pub name_in : TrapValue → ℕ → List ℕ
@@ -33,7 +36,8 @@ index_said name index = name_text name ∷ codes "[" ∷ decimal index ∷ codes
 -- the label of a number, counted through these registers; nothing where they have fewer
 abbrev pub label_said_in : List Reg → ℕ → List (List ℕ)
 label_said_in [] index = []
-label_said_in (reg ∷ regs) index = if nat_lt index reg.size then index_said reg.name index else label_said_in regs (index - reg.size)
+label_said_in (reg ∷ regs) index =
+    if nat_lt index reg.size then index_said reg.name index else label_said_in regs (index - reg.size)
 
 -- the label of a qubit, where it was read: the register's name is cut by itself
 abbrev pub label_said : Names → Qubit → List (List ℕ)

@@ -24,9 +24,12 @@ in_step step what = codes "step " ∷ decimal step ∷ what
 
 -- a schedule that does not play
 abbrev pub play_said : PlayFault → List (List ℕ)
-play_said (plays.Broken step action rule) = in_step step (codes " action " ∷ decimal action ∷ codes ": " ∷ rule_word rule ∷ [])
-play_said (plays.Shared step first second) = in_step step (codes " actions " ∷ decimal first ∷ codes " and " ∷ decimal second ∷ codes " share" ∷ [])
-play_said (plays.Early step op needs) = in_step step (codes " operation " ∷ decimal op.0 ∷ codes " before " ∷ decimal needs.0 ∷ [])
+play_said (plays.Broken step action rule) =
+    in_step step (codes " action " ∷ decimal action ∷ codes ": " ∷ rule_word rule ∷ [])
+play_said (plays.Shared step first second) =
+    in_step step (codes " actions " ∷ decimal first ∷ codes " and " ∷ decimal second ∷ codes " share" ∷ [])
+play_said (plays.Early step op needs) =
+    in_step step (codes " operation " ∷ decimal op.0 ∷ codes " before " ∷ decimal needs.0 ∷ [])
 play_said (plays.Twice step op) = in_step step (codes " operation " ∷ decimal op.0 ∷ codes " twice" ∷ [])
 play_said (plays.Missing op) = codes "operation " ∷ decimal op.0 ∷ codes " missing" ∷ []
 play_said plays.NoMemory = codes "no memory" ∷ []

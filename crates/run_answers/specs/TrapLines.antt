@@ -22,7 +22,8 @@ section_said sections.Place row = codes "place" ∷ []
 
 -- what is wrong with a key
 abbrev pub key_said : KeyAt → List ℕ → List (List ℕ)
-key_said at what = codes "trap: " ∷ section_said at.section at.row ++ codes " key " ∷ name_text at.key ∷ codes ": " ∷ what ∷ []
+key_said at what = codes "trap: " ∷ section_said at.section at.row
+    ++ codes " key " ∷ name_text at.key ∷ codes ": " ∷ what ∷ []
 
 -- the word for what there are too many of
 abbrev pub counted_word : Counted → List ℕ

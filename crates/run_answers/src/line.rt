@@ -85,8 +85,10 @@ impl<'a> Line<'a> {
 impl Line<'_> {
     /// Hands over the program's name and the pieces.
     fn write_front<K: Sink>(&self, sink: &mut K) -> Result<(), Failed>
-        ensures ok { OnOk result (Took (K.taken sink.old) (K.taken sink.new) (codes "qccd: " ++ flat_map (λ text. text) self.now)) }
-        ensures err { OnErr result (TookPart (K.taken sink.old) (K.taken sink.new) (codes "qccd: " ++ flat_map (λ text. text) self.now)) }
+        ensures ok { OnOk result (Took (K.taken sink.old) (K.taken sink.new)
+            (codes "qccd: " ++ flat_map (λ text. text) self.now)) }
+        ensures err { OnErr result (TookPart (K.taken sink.old) (K.taken sink.new)
+            (codes "qccd: " ++ flat_map (λ text. text) self.now)) }
         ensures cause { HasCause (K.faults sink.old) (K.faults sink.new) result }
     {
         write_all(sink, b"qccd: ")?;

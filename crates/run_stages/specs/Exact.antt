@@ -36,8 +36,8 @@ pub record HasFreshLines (setting : SettingValue) (says : Bound) (bound : ℕ) (
 abbrev pub AnyRefutesBound : SettingValue → ℕ → List Line → Type 0
 AnyRefutesBound setting bound lines = AnyRefutes (goal_literal setting Counter bound) (clauses_of lines)
 
--- The bytes say that they refute the bound, and do, by fresh lines: the last of them refutes it, and none before
--- it does.
+-- The bytes say that they refute the bound, and do, by fresh lines: the last of them refutes it, and none
+-- before it does.
 pub record RefutesByFresh (setting : SettingValue) (bound : ℕ) (bytes : List ℕ) : Type 0 where
   pub lines : List Line
   pub are : HasFreshLines setting (Refutes bound) bound lines bytes

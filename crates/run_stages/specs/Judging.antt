@@ -20,7 +20,8 @@ pub record Judging (work : SettingValue → List (List Action) → Work) (before
   pub is_found : IsFoundAs before now name content
   pub finishes : Finishes (JudgedOf work content inputs) result
 
--- what was found of the certificate's file, and what the stages came to with it and with the text of a schedule
+-- what was found of the certificate's file, and what the stages came to with it and with the text of a
+-- schedule
 pub record VerifyingText (before now : ShelfFacts) (cert : List ℕ) (inputs : Inputs) (text : List ℕ)
     (result : Result Ending Answer) : Type 0 where
   pub certificate : Option (List ℕ)

@@ -146,16 +146,19 @@ check_refusal (checks.Illegal fault) = answers.Illegal fault
 check_refusal checks.NoMemory = answers.NoMemory
 
 -- work with a schedule that plays, or a refusal
-abbrev pub as_judged : (SettingValue → List (List Action) → Work) → Inputs → Result Checked CheckFault → Result Work Answer
+abbrev pub as_judged : (SettingValue → List (List Action) → Work) → Inputs → Result Checked CheckFault
+    → Result Work Answer
 as_judged work inputs (Ok checked) = Ok (work (setting_from inputs checked.placement) checked.schedule)
 as_judged work inputs (Err fault) = Err (check_refusal fault)
 
 -- whether the bytes are the text of a schedule that plays
-abbrev pub JudgedIn : (SettingValue → List (List Action) → Work) → Inputs → List ℕ → Result Work Answer → Type 0
+abbrev pub JudgedIn : (SettingValue → List (List Action) → Work) → Inputs → List ℕ → Result Work Answer
+    → Type 0
 JudgedIn work inputs bytes = As (Judges inputs.trap inputs.circuit bytes) (as_judged work inputs)
 
 -- the schedule's file
-abbrev pub JudgedOf : (SettingValue → List (List Action) → Work) → Option (List ℕ) → Inputs → Result Work Answer → Type 0
+abbrev pub JudgedOf : (SettingValue → List (List Action) → Work) → Option (List ℕ) → Inputs
+    → Result Work Answer → Type 0
 JudgedOf work content inputs = Then (Is (bytes_of Schedule content)) (JudgedIn work inputs)
 
 -- the same after the files of the circuit and the trap

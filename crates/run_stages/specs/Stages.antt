@@ -3,7 +3,8 @@ use Rattle.std.specs.Prelude.{◌≡◌, Result, Ok, Err}
 use Rattle.run_answers.specs.declared.answer.Answer.{Answer}
 
 -- a refusal stays, and anything else continues to the next stage
-abbrev pub Continues : {X Y : Type 0} → (X → Result Y Answer → Type 0) → Result X Answer → Result Y Answer → Type 0
+abbrev pub Continues : {X Y : Type 0} → (X → Result Y Answer → Type 0) → Result X Answer → Result Y Answer
+    → Type 0
 Continues next (Ok x) outcome = next x outcome
 Continues next (Err answer) outcome = outcome ≡ Err answer
 

@@ -13,7 +13,8 @@ use Rattle.step_vars.specs.Lists.{ion_count, zones_of, numbered_channels, able_o
 use Rattle.step_vars.specs.Families.{pairs_in}
 use Rattle.step_facts.specs.Facts.{IsChannel}
 
--- ions pass through the channel of a number, the ions i < j of a zone change places, a zone performs an operation
+-- ions pass through the channel of a number, the ions i < j of a zone change places, a zone performs an
+-- operation
 pub data Activity : Type 0 where
   passage : ℕ → Channel → Activity
   exchange : ℕ → ℕ → ℕ → Activity
@@ -23,7 +24,8 @@ pub data Activity : Type 0 where
 abbrev pub IsActivity : SettingValue → Activity → Type 0
 IsActivity setting (passage c channel) = IsChannel setting c channel
 IsActivity setting (exchange i j z) = (i < j) × (j < ion_count setting) × (z < length setting.trap.zones)
-IsActivity setting (operation g z) = IsTrue (is_performed setting.circuit g) × IsTrue (is_able_for setting z g) × (z < length setting.trap.zones)
+IsActivity setting (operation g z) = IsTrue (is_performed setting.circuit g)
+    × IsTrue (is_able_for setting z g) × (z < length setting.trap.zones)
 
 -- it happens at the place
 abbrev pub works_at : ℕ → Activity → Bool
@@ -42,7 +44,8 @@ abbrev pub passages_of : SettingValue → List Activity
 passages_of setting = map (λ (c : NumberedChannel). passage c.number c.channel) (numbered_channels setting)
 
 abbrev pub exchanges_of : SettingValue → List Activity
-exchanges_of setting = flat_map (λ z. map (λ (pair : Cell). exchange pair.row pair.col z) (pairs_in setting)) (zones_of setting)
+exchanges_of setting =
+    flat_map (λ z. map (λ (pair : Cell). exchange pair.row pair.col z) (pairs_in setting)) (zones_of setting)
 
 abbrev pub operations_of : SettingValue → List Activity
 operations_of setting = flat_map (λ z. map (λ g. operation g z) (able_ops setting z)) (zones_of setting)

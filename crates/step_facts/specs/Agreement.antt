@@ -36,20 +36,26 @@ pub record Agrees (setting : SettingValue) (facts : Facts) (t : ℕ) (config : L
       → facts (ord_item i j t) ≡ is_before i j (list_at config p)
 
 -- The facts of step t say which activities happen in a step that begins with the configuration.
-pub record AgreesInStep (setting : SettingValue) (facts : Facts) (t : ℕ) (config : List (List Ion)) (step : List Action) : Type 0 where
+pub record AgreesInStep (setting : SettingValue) (facts : Facts) (t : ℕ) (config : List (List Ion))
+    (step : List Action) : Type 0 where
   pub activities : (a : Activity) → IsActivity setting a
       → facts (item_of t a) ≡ list_any (does setting.trap config a) step
 
 -- In step t the ions pass that were where a used channel begins and are where it ends.
-pub record AgreesOnPassers (setting : SettingValue) (facts : Facts) (t : ℕ) (before now : List (List Ion)) : Type 0 where
+pub record AgreesOnPassers (setting : SettingValue) (facts : Facts) (t : ℕ)
+    (before now : List (List Ion)) : Type 0 where
   pub passers : (i c : ℕ) (channel : Channel) → i < ion_count setting → IsChannel setting c channel
-      → facts (leave_item i c t) ≡ (facts (use_item c t) && (is_there i (list_at before channel.from.0) && is_there i (list_at now channel.to.0)))
+      → facts (leave_item i c t)
+      ≡ (facts (use_item c t)
+      && (is_there i (list_at before channel.from.0) && is_there i (list_at now channel.to.0)))
 
 -- The facts of time t say which operations these steps performed.
 pub record AgreesOnDone (setting : SettingValue) (facts : Facts) (t : ℕ) (steps : List (List Action)) : Type 0 where
   pub done : (g : ℕ) → IsTrue (is_performed setting.circuit g) → facts (done_item g t) ≡ is_done steps g
 
--- The facts say what the schedule does up to a time: where the ions are and in which order, and what happens in each step.
+-- The facts say what the schedule does up to a time: where the ions are and in which order, and what happens
+-- in each step.
 pub record Describes (setting : SettingValue) (facts : Facts) (steps : List (List Action)) (last : ℕ) : Type 0 where
   pub positions : (t : ℕ) → t ≤ last → Agrees setting facts t (config_at setting steps t)
-  pub activities : (r : ℕ) → r < last → AgreesInStep setting facts (suc r) (config_at setting steps r) (step_at steps (suc r))
+  pub activities : (r : ℕ) → r < last
+      → AgreesInStep setting facts (suc r) (config_at setting steps r) (step_at steps (suc r))

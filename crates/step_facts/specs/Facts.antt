@@ -75,7 +75,8 @@ abbrev pub IsChannel : SettingValue → ℕ → Channel → Type 0
 IsChannel setting c channel = slice_get (channels_of setting.trap) c ≡ Some channel
 
 -- a channel by which the ion passes in step t
-pub record PassesSome (setting : SettingValue) (facts : Facts) (i t : ℕ) (ends : Channel → ℕ) (p : ℕ) : Type 0 where
+pub record PassesSome (setting : SettingValue) (facts : Facts) (i t : ℕ) (ends : Channel → ℕ) (p : ℕ)
+    : Type 0 where
   pub number : ℕ
   pub channel : Channel
   pub there : IsChannel setting number channel

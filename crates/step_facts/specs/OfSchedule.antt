@@ -1,4 +1,5 @@
--- The facts of a schedule: what is true of it at each time and in each step. Step t leads from time t - 1 to time t.
+-- The facts of a schedule: what is true of it at each time and in each step. Step t leads from time t - 1 to
+-- time t.
 use Rattle.std.specs.Prelude.{ℕ, ◌+◌, ◌-◌, ◌==◌, Bool, false, ◌&&◌, ◌||◌, List, [], take, slice_get, slice_index_or, Option, None}
 use Rattle.std.specs.Option.{option_map_or}
 use Rattle.std.specs.List.{list_any, list_all}
@@ -71,7 +72,8 @@ step_at steps t = slice_index_or steps (t - 1) []
 -- ion i was at the place where the channel begins, and is at the one where it ends
 abbrev pub goes_by : List (List Ion) → List (List Ion) → ℕ → Option Channel → Bool
 goes_by before now i channel =
-    option_map_or (λ (it : Channel). is_there i (list_at before it.from.0) && is_there i (list_at now it.to.0)) channel false
+    option_map_or (λ (it : Channel).
+    is_there i (list_at before it.from.0) && is_there i (list_at now it.to.0)) channel false
 
 abbrev pub facts_of : SettingValue → List (List Action) → Facts
 facts_of setting steps (At i p t) = is_there i.0 (list_at (config_at setting steps t) p.0)
@@ -79,8 +81,10 @@ facts_of setting steps (Ord i j t) = list_any (is_before i.0 j.0) (config_at set
 facts_of setting steps (Use c t) = list_any (passes_by setting.trap c) (step_at steps t)
 facts_of setting steps (Leave i c t) =
     list_any (passes_by setting.trap c) (step_at steps t)
-    && goes_by (config_at setting steps (t - 1)) (config_at setting steps t) i.0 (slice_get (channels_of setting.trap) c)
-facts_of setting steps (Swap i j z t) = list_any (exchanges (config_at setting steps (t - 1)) i.0 j.0 z.0) (step_at steps t)
+    && goes_by (config_at setting steps (t - 1)) (config_at setting steps t) i.0
+    (slice_get (channels_of setting.trap) c)
+facts_of setting steps (Swap i j z t) =
+    list_any (exchanges (config_at setting steps (t - 1)) i.0 j.0 z.0) (step_at steps t)
 facts_of setting steps (Act g z t) = list_any (performs_in g.0 z.0) (step_at steps t)
 facts_of setting steps (Done g t) = is_done (take t steps) g.0
 facts_of setting steps (Goal t) = list_all (is_done (take t steps)) (performed setting.circuit)

@@ -1,4 +1,5 @@
--- What each family of clauses says of the facts, in words of the trap and the circuit. Step t leads from time r to time t.
+-- What each family of clauses says of the facts, in words of the trap and the circuit. Step t leads from time
+-- r to time t.
 use Rattle.std.specs.Prelude.{◌≡◌, ◌≢◌, ℕ, ◌<◌, ◌≤◌, true, false, not, if◌then◌else◌, IsTrue, length, ◌⊎◌}
 use Rattle.qc_base.specs.Counting.{how_many}
 use Rattle.circuit_core.specs.Deciding.{is_forced}
@@ -33,7 +34,8 @@ StartUndone setting facts = (g : ℕ) → IsTrue (is_performed setting.circuit g
 
 -- an ion is in at most one place
 abbrev pub OnePlace : SettingValue → Facts → ℕ → Type 0
-OnePlace setting facts t = (i p q : ℕ) → i < ion_count setting → p < place_count setting.trap → q < place_count setting.trap
+OnePlace setting facts t =
+    (i p q : ℕ) → i < ion_count setting → p < place_count setting.trap → q < place_count setting.trap
     → IsAt facts i p t → IsAt facts i q t → p ≡ q
 
 -- a place has no more ions than its limit
@@ -45,17 +47,20 @@ FewIons setting facts t = (p : ℕ) → p < place_count setting.trap
 
 -- an ion that passes was where the channel begins
 abbrev pub PassersWereAtSource : SettingValue → Facts → ℕ → ℕ → Type 0
-PassersWereAtSource setting facts r t = (c : ℕ) (channel : Channel) (i : ℕ) → IsChannel setting c channel → i < ion_count setting
+PassersWereAtSource setting facts r t =
+    (c : ℕ) (channel : Channel) (i : ℕ) → IsChannel setting c channel → i < ion_count setting
     → PassesBy facts i c t → IsAt facts i channel.from.0 r
 
 -- and is then where it ends
 abbrev pub PassersAreAtTarget : SettingValue → Facts → ℕ → ℕ → Type 0
-PassersAreAtTarget setting facts r t = (c : ℕ) (channel : Channel) (i : ℕ) → IsChannel setting c channel → i < ion_count setting
+PassersAreAtTarget setting facts r t =
+    (c : ℕ) (channel : Channel) (i : ℕ) → IsChannel setting c channel → i < ion_count setting
     → PassesBy facts i c t → IsAt facts i channel.to.0 t
 
 -- its channel is used
 abbrev pub PassersUseChannel : SettingValue → Facts → ℕ → ℕ → Type 0
-PassersUseChannel setting facts r t = (c : ℕ) (channel : Channel) (i : ℕ) → IsChannel setting c channel → i < ion_count setting
+PassersUseChannel setting facts r t =
+    (c : ℕ) (channel : Channel) (i : ℕ) → IsChannel setting c channel → i < ion_count setting
     → PassesBy facts i c t → IsUsed facts c t
 
 -- an ion stays at its place, or passes by a channel from there
@@ -83,45 +88,57 @@ UsePassesSome setting facts r t = (c : ℕ) (channel : Channel) → IsChannel se
 
 -- a channel into a slot is used only where the slot was empty
 abbrev pub UseNeedsEmptySlot : SettingValue → Facts → ℕ → ℕ → Type 0
-UseNeedsEmptySlot setting facts r t = (c : ℕ) (channel : Channel) (i : ℕ) → IsChannel setting c channel → i < ion_count setting
+UseNeedsEmptySlot setting facts r t =
+    (c : ℕ) (channel : Channel) (i : ℕ) → IsChannel setting c channel → i < ion_count setting
     → is_zone setting.trap channel.to.0 ≡ false → IsUsed facts c t → facts (at_item i channel.to.0 r) ≡ false
 
 -- through a channel from a slot all its ions pass
 abbrev pub UseEmptiesSlot : SettingValue → Facts → ℕ → ℕ → Type 0
-UseEmptiesSlot setting facts r t = (c : ℕ) (channel : Channel) (i : ℕ) → IsChannel setting c channel → i < ion_count setting
-    → is_zone setting.trap channel.from.0 ≡ false → IsUsed facts c t → IsAt facts i channel.from.0 r → PassesBy facts i c t
+UseEmptiesSlot setting facts r t =
+    (c : ℕ) (channel : Channel) (i : ℕ) → IsChannel setting c channel → i < ion_count setting
+    → is_zone setting.trap channel.from.0 ≡ false → IsUsed facts c t → IsAt facts i channel.from.0 r
+    → PassesBy facts i c t
 
 -- where an ion splits from a zone, all that are nearer to the exit pass too
 abbrev pub SplitsTakeTheFront : SettingValue → Facts → ℕ → ℕ → Type 0
-SplitsTakeTheFront setting facts r t = (c : ℕ) (channel : Channel) (i j : ℕ) → IsChannel setting c channel → IsTrue (splits channel.kind)
+SplitsTakeTheFront setting facts r t =
+    (c : ℕ) (channel : Channel) (i j : ℕ) → IsChannel setting c channel → IsTrue (splits channel.kind)
     → i < ion_count setting → j < ion_count setting → j ≢ i
-    → PassesBy facts i c t → IsAt facts j channel.from.0 r → IsNearerTo facts channel.from_end j i r → PassesBy facts j c t
+    → PassesBy facts i c t → IsAt facts j channel.from.0 r → IsNearerTo facts channel.from_end j i r
+    → PassesBy facts j c t
 
 -- ---- one activity at a time
 
 -- at each place at most one activity happens
 abbrev pub OneActivityEach : SettingValue → Facts → ℕ → Type 0
-OneActivityEach setting facts t = (p : ℕ) (a b : Activity) → p < place_count setting.trap → IsActivity setting a → IsActivity setting b
-    → works_at p a ≡ true → works_at p b ≡ true → facts (item_of t a) ≡ true → facts (item_of t b) ≡ true → a ≡ b
+OneActivityEach setting facts t =
+    (p : ℕ) (a b : Activity) → p < place_count setting.trap → IsActivity setting a → IsActivity setting b
+    → works_at p a ≡ true → works_at p b ≡ true → facts (item_of t a) ≡ true → facts (item_of t b) ≡ true
+    → a ≡ b
 
 -- through each junction at most one channel is used
 abbrev pub OneCrossingEach : SettingValue → Facts → ℕ → Type 0
-OneCrossingEach setting facts t = (junction c d : ℕ) (first second : Channel) → junction < length setting.trap.junctions
-    → IsChannel setting c first → IsChannel setting d second → IsTrue (is_through junction first) → IsTrue (is_through junction second)
+OneCrossingEach setting facts t =
+    (junction c d : ℕ) (first second : Channel) → junction < length setting.trap.junctions
+    → IsChannel setting c first → IsChannel setting d second → IsTrue (is_through junction first)
+    → IsTrue (is_through junction second)
     → IsUsed facts c t → IsUsed facts d t → c ≡ d
 
 -- ---- swaps
 
 -- the ions that are swapped in a zone are there
 abbrev pub SwappedAreInZone : SettingValue → Facts → ℕ → ℕ → Type 0
-SwappedAreInZone setting facts r t = (i j z : ℕ) → i < j → j < ion_count setting → z < length setting.trap.zones
+SwappedAreInZone setting facts r t =
+    (i j z : ℕ) → i < j → j < ion_count setting → z < length setting.trap.zones
     → AreSwapped facts i j z t → IsAt facts i z r × IsAt facts j z r
 
 -- and no third ion is between them
 abbrev pub SwappedAreNeighbours : SettingValue → Facts → ℕ → ℕ → Type 0
-SwappedAreNeighbours setting facts r t = (i j k z : ℕ) → i < j → j < ion_count setting → z < length setting.trap.zones
+SwappedAreNeighbours setting facts r t =
+    (i j k z : ℕ) → i < j → j < ion_count setting → z < length setting.trap.zones
     → k < ion_count setting → k ≢ i → k ≢ j → AreSwapped facts i j z t → IsAt facts k z r
-    → ((IsNearer facts i k r × IsNearer facts k j r) → ⊥) × ((IsNearer facts j k r × IsNearer facts k i r) → ⊥)
+    → ((IsNearer facts i k r × IsNearer facts k j r) → ⊥)
+    × ((IsNearer facts j k r × IsNearer facts k i r) → ⊥)
 
 -- their order turns
 abbrev pub SwapsTurn : SettingValue → Facts → ℕ → ℕ → Type 0
@@ -132,21 +149,26 @@ SwapsTurn setting facts r t = (i j z : ℕ) → i < j → j < ion_count setting 
 
 -- ions that stay at a place and are not swapped keep their order
 abbrev pub StayersKeepOrder : SettingValue → Facts → ℕ → ℕ → Type 0
-StayersKeepOrder setting facts r t = (i j p : ℕ) → i < j → j < ion_count setting → p < place_count setting.trap
+StayersKeepOrder setting facts r t =
+    (i j p : ℕ) → i < j → j < ion_count setting → p < place_count setting.trap
     → IsAt facts i p r → IsAt facts j p r → IsAt facts i p t → IsAt facts j p t
     → (IsTrue (is_zone setting.trap p) → facts (swap_item i j p t) ≡ false)
     → facts (ord_item i j t) ≡ facts (ord_item i j r)
 
--- ions that pass together keep their order along the path: seen from the ends it turns where both ends of the channel
--- have the same letter
+-- ions that pass together keep their order along the path: seen from the ends it turns where both ends of the
+-- channel have the same letter
 abbrev pub PassersKeepOrder : SettingValue → Facts → ℕ → ℕ → Type 0
-PassersKeepOrder setting facts r t = (i j c : ℕ) (channel : Channel) → i < j → j < ion_count setting → IsChannel setting c channel
+PassersKeepOrder setting facts r t =
+    (i j c : ℕ) (channel : Channel) → i < j → j < ion_count setting → IsChannel setting c channel
     → PassesBy facts i c t → PassesBy facts j c t
-    → facts (ord_item i j t) ≡ (if same_end channel.from_end channel.to_end then not (facts (ord_item i j r)) else facts (ord_item i j r))
+    → facts (ord_item i j t)
+    ≡ (if same_end channel.from_end channel.to_end then not (facts (ord_item i j r))
+    else facts (ord_item i j r))
 
 -- an ion that merges into a zone is nearer to the end by which it came than those that were there
 abbrev pub MergesAtTheEnd : SettingValue → Facts → ℕ → ℕ → Type 0
-MergesAtTheEnd setting facts r t = (c : ℕ) (channel : Channel) (i j : ℕ) → IsChannel setting c channel → IsTrue (merges channel.kind)
+MergesAtTheEnd setting facts r t =
+    (c : ℕ) (channel : Channel) (i j : ℕ) → IsChannel setting c channel → IsTrue (merges channel.kind)
     → i < ion_count setting → j < ion_count setting → i ≢ j
     → PassesBy facts j c t → IsAt facts i channel.to.0 r → IsNearerTo facts channel.to_end j i t
 
@@ -154,7 +176,8 @@ MergesAtTheEnd setting facts r t = (c : ℕ) (channel : Channel) (i j : ℕ) →
 
 -- the ions of an operation that a zone performs are there
 abbrev pub IonsAreInZone : SettingValue → Facts → ℕ → ℕ → Type 0
-IonsAreInZone setting facts r t = (g z i : ℕ) → IsActivity setting (operation g z) → i < ion_count setting → IsTrue (is_ion_of setting g i)
+IonsAreInZone setting facts r t =
+    (g z i : ℕ) → IsActivity setting (operation g z) → i < ion_count setting → IsTrue (is_ion_of setting g i)
     → IsPerformedIn facts g z t → IsAt facts i z r
 
 -- it was not done before, and is done then
@@ -171,13 +194,16 @@ pub record IsPerformed (setting : SettingValue) (facts : Facts) (g t : ℕ) : Ty
 -- what is done stays done, and is done by being performed
 abbrev pub DoneByPerforming : SettingValue → Facts → ℕ → ℕ → Type 0
 DoneByPerforming setting facts r t = (g : ℕ) → IsTrue (is_performed setting.circuit g)
-    → (IsDone facts g r → IsDone facts g t) × (IsDone facts g t → IsDone facts g r ⊎ IsPerformed setting facts g t)
+    → (IsDone facts g r → IsDone facts g t)
+    × (IsDone facts g t → IsDone facts g r ⊎ IsPerformed setting facts g t)
 
 -- what has to come before it was done before
 abbrev pub DoneInOrder : SettingValue → Facts → ℕ → ℕ → Type 0
-DoneInOrder setting facts r t = (g h : ℕ) → IsTrue (is_performed setting.circuit g) → IsTrue (is_performed setting.circuit h)
+DoneInOrder setting facts r t =
+    (g h : ℕ) → IsTrue (is_performed setting.circuit g) → IsTrue (is_performed setting.circuit h)
     → IsTrue (is_forced setting.circuit h g) → IsDone facts g t → IsDone facts h r
 
 -- the goal is that all operations are done
 abbrev pub GoalNeedsAll : SettingValue → Facts → ℕ → Type 0
-GoalNeedsAll setting facts t = (g : ℕ) → IsTrue (is_performed setting.circuit g) → facts (goal_item t) ≡ true → IsDone facts g t
+GoalNeedsAll setting facts t =
+    (g : ℕ) → IsTrue (is_performed setting.circuit g) → facts (goal_item t) ≡ true → IsDone facts g t

@@ -11,8 +11,8 @@ use Rattle.step_facts.specs.OfSchedule.{facts_of, passes_by, step_at}
 use Rattle.step_facts.specs.ToSchedule.{schedule_of}
 use Rattle.step_facts.specs.Agreement.{Describes}
 
--- of the facts of every schedule of at most t steps that plays, all families and bounds of the parts 0 to t hold, and the
--- goal of t
+-- of the facts of every schedule of at most t steps that plays, all families and bounds of the parts 0 to t
+-- hold, and the goal of t
 abbrev pub SchedulesHaveFacts : SettingValue → ℕ → Type 0
 SchedulesHaveFacts setting t = (steps : List (List Action)) → Plays setting steps → length steps ≤ t
     → PartsHold setting (facts_of setting steps) t

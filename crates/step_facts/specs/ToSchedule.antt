@@ -1,4 +1,5 @@
--- The schedule of facts: in each step the channels in use in order, then the swaps by zone, then the operations by zone.
+-- The schedule of facts: in each step the channels in use in order, then the swaps by zone, then the
+-- operations by zone.
 use Rattle.std.specs.Prelude.{ℕ, zero, suc, ◌+◌, ◌==◌, Bool, ◌||◌, if◌then◌else◌, List, [], ◌∷◌, map, filter, Option, None, Some}
 use Rattle.qc_base.specs.declared.ids.Ion.{Ion}
 use Rattle.qc_base.specs.declared.ids.JunctionId.{JunctionId}
@@ -42,8 +43,10 @@ index_of_pair i j (ion ∷ ions) = if ion.0 == i || ion.0 == j then 0 else index
 
 -- the action of an activity in step t, which begins with the configuration
 abbrev pub action_of : Facts → ℕ → List (List Ion) → Activity → Action
-action_of facts t config (passage c channel) = action_through channel (passing_count facts c t (list_at config channel.from.0))
-action_of facts t config (exchange i j z) = actions.Swap (record { 0 = z }) (index_of_pair i j (list_at config z))
+action_of facts t config (passage c channel) =
+    action_through channel (passing_count facts c t (list_at config channel.from.0))
+action_of facts t config (exchange i j z) =
+    actions.Swap (record { 0 = z }) (index_of_pair i j (list_at config z))
 action_of facts t config (operation g z) = actions.Op (record { 0 = z }) (record { 0 = g })
 
 -- the activity happens in step t

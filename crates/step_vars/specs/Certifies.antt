@@ -28,13 +28,14 @@ abbrev pub asked : ℕ → Bound
 asked zero = Nothing
 asked (suc bound) = Refutes bound
 
--- The bytes say that they refute the bound, and do: their lines have the form, each is good over the clauses of the
--- parts 0 to the bound, and one of them refutes it. The encoding is the one that the head names.
+-- The bytes say that they refute the bound, and do: their lines have the form, each is good over the clauses of
+-- the parts 0 to the bound, and one of them refutes it. The encoding is the one that the head names.
 pub record IsRefutation (setting : SettingValue) (bytes : List ℕ) (bound : ℕ) : Type 0 where
   pub encoding : Encoding
   pub lines : List Line
   pub small : bound < 2 ^ 32
-  pub text : bytes ≡ certificate_text (head_of encoding (Refutes bound)) (length (encoding_of setting encoding bound)) lines
+  pub text : bytes
+      ≡ certificate_text (head_of encoding (Refutes bound)) (length (encoding_of setting encoding bound)) lines
   pub form : HaveForm (vars_up_to setting encoding bound) (length (encoding_of setting encoding bound) + 1) lines
   pub good : AreGood (vars_up_to setting encoding bound) (encoding_of setting encoding bound) lines
   pub refutes : AnyRefutes (goal_literal setting encoding bound) (clauses_of lines)

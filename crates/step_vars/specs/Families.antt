@@ -228,8 +228,8 @@ stayers_keep_order setting r t = flat_map (λ p. flat_map (λ pair.
 abbrev pub both_leave : ℕ → NumberedChannel → Cell → List Claim
 both_leave t c pair = not_so (leave_item pair.row c.number t) ∷ not_so (leave_item pair.col c.number t) ∷ []
 
--- ions that pass together are not reflected: their order from end a turns where both ends of the channel have the
--- same letter, and else stays
+-- ions that pass together are not reflected: their order from end a turns where both ends of the channel have
+-- the same letter, and else stays
 abbrev pub pair_passes : ℕ → ℕ → NumberedChannel → Cell → List (List Claim)
 pair_passes r t c pair =
     if same_end c.channel.from_end c.channel.to_end

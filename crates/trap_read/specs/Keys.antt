@@ -19,7 +19,8 @@ use Rattle.trap_read.specs.declared.row.Row.{Row}
 use Rattle.trap_read.specs.declared.abilities.Abilities.{Abilities}
 use Rattle.trap_read.specs.Answers.{◌>>◌, unless}
 
--- A table of the file: its section, its number among the rows of the section, which is 0 for a table that is no row.
+-- A table of the file: its section, its number among the rows of the section, which is 0 for a table that is
+-- no row.
 pub record RowValue : Type 0 where
   pub section : Section
   pub number : ℕ
@@ -44,10 +45,13 @@ keys_of (member key value members) = key ∷ keys_of members
 
 -- the section has such a key; the keys of `place` are names of zones and are judged with those
 abbrev pub has_key : Section → List ℕ → Bool
-has_key Top key = bytes_eq key (codes "zone") || bytes_eq key (codes "segment") || bytes_eq key (codes "junction")
+has_key Top key =
+    bytes_eq key (codes "zone") || bytes_eq key (codes "segment") || bytes_eq key (codes "junction")
     || bytes_eq key (codes "join") || bytes_eq key (codes "place")
-has_key Zone key = bytes_eq key (codes "name") || bytes_eq key (codes "capacity") || bytes_eq key (codes "can")
-has_key Segment key = bytes_eq key (codes "name") || bytes_eq key (codes "slots") || bytes_eq key (codes "load")
+has_key Zone key =
+    bytes_eq key (codes "name") || bytes_eq key (codes "capacity") || bytes_eq key (codes "can")
+has_key Segment key =
+    bytes_eq key (codes "name") || bytes_eq key (codes "slots") || bytes_eq key (codes "load")
 has_key Junction key = bytes_eq key (codes "name")
 has_key Join key = bytes_eq key (codes "ends")
 has_key Place key = true
@@ -117,13 +121,18 @@ are_abilities [] = true
 are_abilities (word ∷ words) = (is_ability word && not (is_listed word words)) && are_abilities words
 
 abbrev pub abilities : List (List ℕ) → Abilities
-abilities words = record { one = is_listed (codes "one") words; two = is_listed (codes "two") words; read = is_listed (codes "read") words }
+abilities words = record {
+  one = is_listed (codes "one") words;
+  two = is_listed (codes "two") words;
+  read = is_listed (codes "read") words;
+}
 
 -- abilities, or nothing, which is none of them
 abbrev pub can_at : KeyAt → Option Data → Result Abilities TrapText
 can_at key None = Ok (abilities [])
 can_at key (Some value) =
-    unless (is_texts value) (Kind key) >> unless (are_abilities (texts_in value)) (Range key) >> Ok (abilities (texts_in value))
+    unless (is_texts value) (Kind key) >> unless (are_abilities (texts_in value)) (Range key)
+    >> Ok (abilities (texts_in value))
 
 -- ---- ends
 
@@ -153,7 +162,8 @@ joined first second = record { first = first; second = second }
 
 -- two ends
 abbrev pub ends_in : List (List ℕ) → Option JoinPart
-ends_in (first ∷ second ∷ []) = option_and_then (λ end. option_map (joined end) (end_named second)) (end_named first)
+ends_in (first ∷ second ∷ []) =
+    option_and_then (λ end. option_map (joined end) (end_named second)) (end_named first)
 ends_in _ = None
 
 abbrev pub ends_at : KeyAt → Option Data → Result JoinPart TrapText

@@ -26,7 +26,8 @@ is_zone zones name = list_any (λ zone. bytes_eq zone.name name) zones
 abbrev pub keys_pass : (List ℕ → Bool) → Members → Result (Unit {0}) TrapText
 keys_pass is_known no_members = Ok tt
 keys_pass is_known (member key value members) =
-    unless (is_known key) (Range (place_key key)) >> unless (is_texts value) (Kind (place_key key)) >> keys_pass is_known members
+    unless (is_known key) (Range (place_key key)) >> unless (is_texts value) (Kind (place_key key))
+    >> keys_pass is_known members
 
 abbrev pub place_passes : List ZonePart → Option Members → Result (Unit {0}) TrapText
 place_passes zones None = Ok tt
@@ -35,7 +36,8 @@ place_passes zones (Some members) = keys_pass (is_zone zones) members
 -- the labels under a name, none where it has no key
 abbrev pub labels_under : List ℕ → Members → List (List ℕ)
 labels_under name no_members = []
-labels_under name (member key value members) = if bytes_eq key name then texts_in value else labels_under name members
+labels_under name (member key value members) =
+    if bytes_eq key name then texts_in value else labels_under name members
 
 -- a list for each zone, in the order of the zones
 abbrev pub labels_of : List ZonePart → Members → List (List (List ℕ))

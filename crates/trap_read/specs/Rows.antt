@@ -39,10 +39,12 @@ abbrev pub row_at : Section → ℕ → Members → RowValue
 row_at section index members = record { section = section; number = row_number index; members = members }
 
 -- the parts that the rows of a section are, from the row at an index on
-abbrev pub rows_from : {X : Type 0} → (RowValue → Result X TrapText) → Section → ℕ → Items → Result (List X) TrapText
+abbrev pub rows_from : {X : Type 0} → (RowValue → Result X TrapText) → Section → ℕ → Items
+    → Result (List X) TrapText
 rows_from part section index no_items = Ok []
 rows_from part section index (item (table members) rows) =
-    part (row_at section index members) >>= (λ first. rows_from part section (index + 1) rows >>= (λ rest. Ok (first ∷ rest)))
+    part (row_at section index members)
+    >>= (λ first. rows_from part section (index + 1) rows >>= (λ rest. Ok (first ∷ rest)))
 rows_from part section index (item value rows) = rows_from part section (index + 1) rows
 
 -- ---- for private functions

@@ -109,7 +109,8 @@ pub(crate) fn given_of(
     zones: &[ZonePart],
     place: Option<&Table>,
 ) -> Result<Option<GivenLabels>, NoMemory>
-    ensures { IfOk result (λ given. given ≡ given_of zones.now (option_map (λ table. table_view table.now) place.entry)) }
+    ensures { IfOk result (λ given.
+        given ≡ given_of zones.now (option_map (λ table. table_view table.now) place.entry)) }
 {
     match place {
         Some(table) => Ok(Some(labels_of(alloc, zones, table)?)),

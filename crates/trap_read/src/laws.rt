@@ -9,7 +9,8 @@ ghost use Rattle.trap_read.specs.TrapFile.{trap_of};
 
 /// The trap of a file keeps all rules of traps.
 pub fn traps_of_files_are_right()
-    ensures { (bytes : List ℕ) (trap : TrapValue) (given : Option (List (List (List ℕ)))) → trap_of bytes ≡ Ok (trap, given) → IsTrap trap }
+    ensures { (bytes : List ℕ) (trap : TrapValue) (given : Option (List (List (List ℕ))))
+        → trap_of bytes ≡ Ok (trap, given) → IsTrap trap }
 {}
 
 /// Where a file has the table `place`, it gives one list of labels for each zone.

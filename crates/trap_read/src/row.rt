@@ -150,7 +150,8 @@ impl<'a> Row<'a> {
 
     /// The table under a key, where it has the key.
     pub(crate) fn table(self, alloc: Global, key: &str) -> Result<Option<&'a Table>, TrapText>
-        ensures { Gives (option_map (λ table. table_view table.now)) result (under (row_view self.entry) key.now table_at) }
+        ensures { Gives (option_map (λ table. table_view table.now)) result
+            (under (row_view self.entry) key.now table_at) }
     {
         let Some(value) = self.get(key) else {
             return Ok(None);
