@@ -119,11 +119,14 @@ has_lines setting bound lines log parts sound there names fresh =
     record {
       parts = all;
       covers = covers;
-      form = first_lines_form log axioms lines vars sound covers only;
-      good = subst (λ (clauses : List (List Literal)). AreGood vars clauses (first_lines log axioms lines)) all good;
-      fresh = subst (AreFresh (parts_of setting Counter) bound []) (take-map (line_of axioms) lines log.derived)
-          (AreFresh-take (parts_of setting Counter) bound [] lines (map (line_of axioms) log.derived)
-          (subst (AreFresh (parts_of setting Counter) bound []) numbered (fresh bound reach)));
+      are = record {
+        form = subst (λ (clauses : List (List Literal)). HaveForm vars (length clauses + 1) (first_lines log axioms lines)) parts
+            (first_lines_form log axioms lines vars sound covers only);
+        good = subst (λ (clauses : List (List Literal)). AreGood vars clauses (first_lines log axioms lines)) all good;
+        fresh = subst (AreFresh (parts_of setting Counter) bound []) (take-map (line_of axioms) lines log.derived)
+            (AreFresh-take (parts_of setting Counter) bound [] lines (map (line_of axioms) log.derived)
+            (subst (AreFresh (parts_of setting Counter) bound []) numbered (fresh bound reach)));
+      };
     }
 
 below_next : (setting : SettingValue) (bound : ℕ) (derived : List Derived) → RefuteLower setting bound derived → AnyRefutes (goal_literal setting Counter bound) (clauses_of derived)
@@ -192,7 +195,7 @@ ends_next setting bound log parts sound names fresh none =
     clauses_of-first log axioms count ∙ take_all count (clauses_of log.derived) (omega (arith, length-map log.derived (λ (it : Derived). it.clause))) in
     let above : vars < next.var = omega (arith, next_vars setting bound, vars_grow setting (suc bound), goal_last (numbering_of setting Counter) (suc bound)) in
     none_after_next (goal_literal setting Counter bound) next vars (clauses_of log.derived) above
-    (subst (NameOnly (λ var. (1 ≤ var) × (var ≤ vars))) whole (names_of_form vars (axioms + 1) (first_lines log axioms count) has.form)) none
+    (subst (NameOnly (λ var. (1 ≤ var) × (var ≤ vars))) whole (names_of_form vars (length (encoding_of setting Counter bound) + 1) (first_lines log axioms count) has.are.form)) none
 
 pub axioms_after : (task : TaskValue) (bound : ℕ) (old new : SolverState) → old.log.axioms ≡ encoding_of task.setting Counter bound → IsSolved task bound old new
     → new.log.axioms ≡ encoding_of task.setting Counter bound
@@ -259,7 +262,7 @@ none_fits : (setting : SettingValue) (bound : ℕ) (log : Lines) (axioms lines :
     → (steps : List (List Action)) → Plays setting steps → length steps ≤ bound → ⊥
 none_fits setting bound log axioms lines fits has steps plays short =
     let fit = fits steps plays short in
-    let derived = AreDerived-good (vars_up_to setting Counter bound) (encoding_of setting Counter bound) (first_lines log axioms lines) has.over.good in
+    let derived = AreDerived-good (vars_up_to setting Counter bound) (encoding_of setting Counter bound) (first_lines log axioms lines) has.over.are.good in
     lines_refute fit.values (encoding_of setting Counter bound) (first_lines log axioms lines) (goal_literal setting Counter bound) derived (ends_any (goal_literal setting Counter bound) (first_lines log axioms lines) has.ends) fit.model.clauses fit.model.goal
 
 fewer_steps : (setting : SettingValue) (steps : ℕ) (log : Lines) (axioms lines : ℕ) → ((bound : ℕ) → bound < steps → EveryScheduleFits setting Counter bound)

@@ -3,7 +3,7 @@ use Rattle.std.proofs.Common.{◌≡◌, ℕ, zero, suc, ◌+◌, ◌<◌, ◌^�
 use Rattle.std.proofs.lemmas.List.{length-take-le, append-nil}
 use Rattle.sat_base.specs.declared.certificate.Bound.TheVariants.{Refutes, Nothing}
 use Rattle.sat_base.specs.Derivation.{Line}
-use Rattle.sat_base.specs.Certificate.{certificate_text, HaveForm}
+use Rattle.sat_base.specs.Certificate.{certificate_text}
 use Rattle.derivation_log.specs.Log.{Lines}
 use Rattle.derivation_log.specs.Printing.{first_lines}
 use Rattle.step_rules.specs.Setting.{SettingValue}
@@ -14,10 +14,10 @@ use Rattle.exact_search.specs.Found.{HasLines, RefutesFewer}
 use Rattle.exact_search.proofs.Ends.{ends_any}
 
 -- as many axioms as the parts have
-counted : (setting : SettingValue) (bound : ℕ) (log : Lines) (axioms lines : ℕ) → HasLines setting bound log axioms lines → length (encoding_of setting Counter bound) ≡ axioms
+pub counted : (setting : SettingValue) (bound : ℕ) (log : Lines) (axioms lines : ℕ) → HasLines setting bound log axioms lines → length (encoding_of setting Counter bound) ≡ axioms
 counted setting bound log axioms lines has = ap length (sym has.parts) ∙ length-take-le axioms log.axioms has.covers.axioms_there
 
-no_line : (log : Lines) (axioms lines : ℕ) → lines ≡ 0 → first_lines log axioms lines ≡ []
+pub no_line : (log : Lines) (axioms lines : ℕ) → lines ≡ 0 → first_lines log axioms lines ≡ []
 no_line log axioms lines none = ap (λ (n : ℕ). first_lines log axioms n) none
 
 pub lines_certify : (setting : SettingValue) (steps : ℕ) (log : Lines) (axioms lines : ℕ) → steps < 2 ^ 32 → RefutesFewer setting steps log axioms lines
@@ -34,7 +34,7 @@ lines_certify setting (suc bound) log axioms lines less has =
       lines = all;
       small = omega (arith, less);
       text = ap (λ (n : ℕ). certificate_text (head_of Counter (Refutes bound)) n all) (sym same);
-      form = subst (λ (n : ℕ). HaveForm (vars_up_to setting Counter bound) (n + 1) all) (sym same) has.over.form;
-      good = has.over.good;
+      form = has.over.are.form;
+      good = has.over.are.good;
       refutes = ends_any (goal_literal setting Counter bound) all has.ends;
     }

@@ -74,9 +74,7 @@ few_lines task bound log parts within count has few =
     let axioms = length log.axioms in
     let lines = first_lines log axioms task.budget in
     let size : length lines ≡ task.budget = length-map (take task.budget log.derived) (line_of axioms) ∙ length-take-le task.budget log.derived (omega (arith, count)) in
-    let vars = vars_up_to task.setting Counter bound in
-    let form : HaveForm vars (length (encoding_of task.setting Counter bound) + 1) lines = subst (λ (clauses : List (List Literal)). HaveForm vars (length clauses + 1) lines) parts has.form in
-    let less = few lines form has.fresh in
+    let less = few lines has.are.form has.are.fresh in
     let grows = before_grows (numbering_of task.setting Counter) (bound + 1) (task.vars.steps + 1) (omega (arith, within)) in
     let most = pow-le-pow_right {n = 3} (omega arith) grows in
     omega (arith, less, size, most)

@@ -4,7 +4,6 @@ use Rattle.std.specs.Prelude.{All}
 use Rattle.std.proofs.lemmas.List.{take-append-le}
 use Rattle.sat_base.specs.Literal.{Literal}
 use Rattle.sat_base.specs.Derivation.{AreGood}
-use Rattle.sat_base.specs.Certificate.{HaveForm}
 use Rattle.sat_base.specs.Fresh.{AreFresh}
 use Rattle.derivation_log.specs.Log.{Derived, Lines}
 use Rattle.derivation_log.specs.Printing.{line_of, first_lines, Covers, NameNoLaterAxiom}
@@ -12,7 +11,7 @@ use Rattle.step_rules.specs.Setting.{SettingValue}
 use Rattle.step_vars.specs.declared.encoding.Encoding.TheVariants.{Counter}
 use Rattle.step_vars.specs.Encoding.{encoding_of, parts_of, goal_literal}
 use Rattle.step_vars.specs.Certifies.{vars_up_to}
-use Rattle.exact_search.specs.Found.{HasLines, EndsRefuting, RefutesFewer}
+use Rattle.exact_search.specs.Found.{AreFreshLines, HasLines, EndsRefuting, RefutesFewer}
 
 -- the new log has the axioms and the lines of the old one, and perhaps more
 pub record Grows (old new : Lines) : Type 0 where
@@ -44,9 +43,7 @@ HasLines-kept setting bound old new axioms lines grows has =
     record {
       parts = taken axioms old.axioms grows.axioms new.axioms has.covers.axioms_there grows.more_axioms ∙ has.parts;
       covers = Covers-kept old new axioms lines grows has.covers;
-      form = subst (HaveForm (vars_up_to setting Counter bound) (axioms + 1)) same has.form;
-      good = subst (AreGood (vars_up_to setting Counter bound) (encoding_of setting Counter bound)) same has.good;
-      fresh = subst (AreFresh (parts_of setting Counter) bound []) same has.fresh;
+      are = subst (AreFreshLines setting bound) same has.are;
     }
 
 pub RefutesFewer-kept : (setting : SettingValue) (steps : ℕ) (old new : Lines) (axioms lines : ℕ) → Grows old new → RefutesFewer setting steps old axioms lines → RefutesFewer setting steps new axioms lines

@@ -20,20 +20,22 @@ use Rattle.exact_search.specs.TooLarge.{too_large}
 
 -- ---- lines over the parts of the encoding
 
--- The log's first axioms are the parts 0 to the bound, in order. Its first derived lines, none of whose hints
--- is a later axiom, have the form, and are good over these parts and fresh.
+-- the lines of a certificate over the parts 0 to a bound: they have the form, and are good and fresh
+pub record AreFreshLines (setting : SettingValue) (bound : ℕ) (lines : List Line) : Type 0 where
+  pub form : HaveForm (vars_up_to setting Counter bound) (length (encoding_of setting Counter bound) + 1) lines
+  pub good : AreGood (vars_up_to setting Counter bound) (encoding_of setting Counter bound) lines
+  pub fresh : AreFresh (parts_of setting Counter) bound [] lines
+
+-- The log's first axioms are the parts 0 to the bound, in order, and its first derived lines, none of whose
+-- hints is a later axiom, are those of a certificate over these parts.
 pub record HasLines (setting : SettingValue) (bound : ℕ) (log : Lines) (axioms lines : ℕ) : Type 0 where
   pub parts : take axioms log.axioms ≡ encoding_of setting Counter bound
   pub covers : Covers log axioms lines
-  pub form : HaveForm (vars_up_to setting Counter bound) (axioms + 1) (first_lines log axioms lines)
-  pub good : AreGood (vars_up_to setting Counter bound) (encoding_of setting Counter bound)
-      (first_lines log axioms lines)
-  pub fresh : AreFresh (parts_of setting Counter) bound [] (first_lines log axioms lines)
+  pub are : AreFreshLines setting bound (first_lines log axioms lines)
 
--- one of the first lines refutes the bound
-abbrev pub IsRefutedBy : SettingValue → ℕ → Lines → ℕ → ℕ → Type 0
-IsRefutedBy setting bound log axioms lines =
-    AnyRefutes (goal_literal setting Counter bound) (clauses_of (first_lines log axioms lines))
+-- one of the lines refutes the bound
+abbrev pub AnyRefutesBound : SettingValue → ℕ → List Line → Type 0
+AnyRefutesBound setting bound lines = AnyRefutes (goal_literal setting Counter bound) (clauses_of lines)
 
 -- the last of the lines refutes the goal, and none before it does
 pub record EndsRefuting (goal : Literal) (lines : List Line) : Type 0 where
@@ -78,8 +80,9 @@ pub record IsSpent (setting : SettingValue) (max budget : ℕ) (log : Lines) (bo
   pub parts : log.axioms ≡ encoding_of setting Counter bound
   pub spent : length log.derived ≡ budget
   pub lines : HasLines setting bound log (length log.axioms) budget
-  pub below : (lower : ℕ) → lower < bound → IsRefutedBy setting lower log (length log.axioms) budget
-  pub left : IsRefutedBy setting bound log (length log.axioms) budget → ⊥
+  pub below : (lower : ℕ) → lower < bound
+      → AnyRefutesBound setting lower (first_lines log (length log.axioms) budget)
+  pub left : AnyRefutesBound setting bound (first_lines log (length log.axioms) budget) → ⊥
   pub few : budget < 3 ^ vars_up_to setting Counter max
 
 abbrev pub IsFound : SettingValue → ℕ → ℕ → Found → Type 0

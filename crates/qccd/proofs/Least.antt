@@ -27,7 +27,7 @@ use Rattle.verify_core.specs.declared.verify_fault.Count.TheVariants as verify_c
 use Rattle.verify_core.specs.declared.verify_fault.VerifyFault.{VerifyFault}
 use Rattle.verify_core.specs.declared.verify_fault.VerifyFault.TheVariants.{TooLarge}
 use Rattle.verify_core.specs.Judging.{Judges}
-use Rattle.verify_core.specs.Verifying.{above, too_large as verify_too_large, IsVerified, IsLeastText}
+use Rattle.verify_core.specs.Verifying.{above, too_large as verify_too_large, JudgesCertificate, IsVerified, IsLeastText}
 use Rattle.request_words.specs.declared.file.File.TheVariants as files
 use Rattle.request_words.specs.Request.{Asked, Search, compile, check, verify, report, load, request_of}
 use Rattle.run_answers.specs.declared.answer.Answer.{Answer}
@@ -38,7 +38,7 @@ use Rattle.run_stages.specs.Work.{Work, make, fewest, judged, reported, verified
 use Rattle.run_stages.specs.Exact.{IsLeastWritten}
 use Rattle.run_stages.specs.Stages.{Is, Then}
 use Rattle.run_stages.specs.Found.{Found}
-use Rattle.run_stages.specs.Prepare.{bytes_of, or_refuse, check_refusal, verify_refusal, setting_with, inputs_of, InputsOf, Routed, within_search, as_judged, JudgedFor, CheckedIn, within_verify, JudgesCertificate, as_certified, CertifiedIn, CertifiedOf, VerifiedIn, VerifiedOf, Comes, Prepares}
+use Rattle.run_stages.specs.Prepare.{bytes_of, or_refuse, check_refusal, verify_refusal, setting_with, inputs_of, InputsOf, Routed, within_search, as_judged, JudgedFor, CheckedIn, within_verify, as_certified, CertifiedIn, CertifiedOf, VerifiedIn, VerifiedOf, Comes, Prepares}
 use Rattle.run_stages.proofs.Stages.{then_ok}
 use Rattle.qccd.specs.RoundTrip.{IsAccepted}
 use Rattle.qccd.proofs.Went.{went, asked_for, placed_by, routed_work, sought_work}
@@ -108,7 +108,7 @@ certified_by inputs checked text cert setting steps (Ok done) judges small certi
       setting_is = same_setting setting (setting_with inputs checked) steps checked.schedule same;
       steps_is = same_steps setting (setting_with inputs checked) steps checked.schedule same;
       cert = cert;
-      is = record { checked = checked; schedule = record { legal = judges; small = small }; long = refl; certifies = certifies.0; within = certifies.1 };
+      is = record { checked = checked; schedule = record { legal = judges; small = small }; long = refl; is = certifies };
     }
 certified_by inputs checked text cert setting steps (Err fault) judges small certifies e = absurd cc
 
@@ -234,11 +234,11 @@ certified_again found setting steps text cert again small certifies there few =
     (then_ok (CheckedIn inputs text) (λ c. Then (Is (within_verify inputs c)) (CertifiedOf found.certificate inputs)) checked (Ok work) (record { judgement = Ok checked; is = again.judges; outcome_is = refl })
     (then_ok (Is (within_verify inputs checked)) (CertifiedOf found.certificate inputs) checked (Ok work) fits
     (then_ok (Is (ok_or found.certificate (answers.ReadFault files.Certificate))) (CertifiedIn inputs checked) cert (Ok work) read
-    (record { judgement = Ok tt; is = (holds, few); outcome_is = refl }))))))
+    (record { judgement = Ok tt; is = record { certifies = holds; within = few }; outcome_is = refl }))))))
 
 pub certified_verified : (found again : Found) (words verify_words : List (List ℕ)) (circuit trap circuit_again trap_again schedule cert : List ℕ) (rule : PlaceRule) (exact : Search) (setting : SettingValue) (max budget : ℕ) (ending : Ending)
     → request_of words ≡ Some (compile circuit trap rule (Some exact)) → request_of verify_words ≡ Some (verify circuit_again trap_again schedule cert)
-    → Prepares found words (Ok (fewest setting max budget)) → (is : IsLeastWritten setting max ending)
+    → Prepares found words (Ok (fewest setting max budget)) → (is : IsLeastWritten setting max budget ending)
     → again.circuit ≡ found.circuit → again.trap ≡ found.trap → again.schedule ≡ Some ending.text → length ending.text ≤ 2 ^ 30
     → again.certificate ≡ Some is.put → length is.put ≤ 2 ^ 50 → IsAccepted verified again verify_words setting ending.text
 certified_verified found again words verify_words circuit trap circuit_again trap_again schedule cert rule exact setting max budget ending request verify_request prepares is same_circuit same_trap there few cert_there cert_few =

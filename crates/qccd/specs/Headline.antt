@@ -18,7 +18,7 @@ use Rattle.step_vars.specs.Certifies.{Certifies}
 use Rattle.request_words.specs.Request.{Search}
 use Rattle.run_stages.specs.Found.{Found}
 use Rattle.run_stages.specs.Prepare.{CircuitOf, TrapOf}
-use Rattle.run_stages.specs.Exact.{RefutesFewer}
+use Rattle.run_stages.specs.Exact.{RefutesFewerByFresh}
 use Rattle.qccd.specs.Run.{Devices, Holds}
 
 -- the line of an operation: its zone, its number, the ions on which the placement puts its qubits, and its text
@@ -27,14 +27,14 @@ line_with_ions trap circuit placement zone number op =
     codes "op " ++ place_text trap zone.0 ++ codes " " ++ op_line circuit placement number.0 op
 
 -- No schedule that plays has fewer steps, and it has at most as many as were asked for. What was put under the
--- name of the certificate certifies that, by fresh lines.
+-- name of the certificate certifies that, by fresh lines, no more than the budget.
 pub record IsCertified (setting : SettingValue) (schedule : List (List Action)) (exact : Search)
     (before now : Devices) : Type 0 where
   pub least : IsLeast setting schedule
   pub within : length schedule ≤ exact.max
   pub cert : List ℕ
   pub certifies : Certifies setting cert (length schedule)
-  pub fresh : RefutesFewer setting (length schedule) cert
+  pub fresh : RefutesFewerByFresh setting (length schedule) exact.budget cert
   pub holds : Holds before.shelf now.shelf (Some exact.cert) (Some cert)
 
 -- the same in exact mode; else nothing is claimed of other schedules

@@ -74,7 +74,7 @@ pub fn a_certified_schedule_is_verified()
         (rule : PlaceRule) (exact : Search) (setting : SettingValue) (max budget : ℕ) (ending : Ending)
         → request_of words ≡ Some (compile circuit trap rule (Some exact))
         → request_of verify_words ≡ Some (verify circuit_again trap_again schedule cert)
-        → Prepares found words (Ok (fewest setting max budget)) → (is : IsLeastWritten setting max ending)
+        → Prepares found words (Ok (fewest setting max budget)) → (is : IsLeastWritten setting max budget ending)
         → again.circuit ≡ found.circuit → again.trap ≡ found.trap
         → again.schedule ≡ Some ending.text → length ending.text ≤ 2 ^ 30
         → again.certificate ≡ Some is.put → length is.put ≤ 2 ^ 50

@@ -15,7 +15,7 @@ use Rattle.verify_core.specs.declared.fault.CheckFault.TheVariants as checks
 use Rattle.verify_core.specs.declared.verify_fault.VerifyFault.{VerifyFault}
 use Rattle.verify_core.specs.declared.verify_fault.VerifyFault.TheVariants as faults
 use Rattle.verify_core.specs.Judging.{Judges}
-use Rattle.verify_core.specs.Verifying.{too_large, IsWithinLimits, Verifies, VerifiesUnlessFailed, KeepsCounts, IsAnswerUnlessFailed}
+use Rattle.verify_core.specs.Verifying.{too_large, IsAcceptedCertificate, JudgesCertificate, IsWithinLimits, Verifies, VerifiesUnlessFailed, KeepsCounts, IsAnswerUnlessFailed}
 use Rattle.verify_core.proofs.Judging.{judged_once}
 use Rattle.schedule_play.proofs.Verdicts as verdicts
 use Rattle.run_answers.specs.declared.answer.Answer.{Answer}
@@ -27,7 +27,7 @@ use Rattle.run_stages.specs.declared.ending.Ending.{Ending}
 use Rattle.run_stages.specs.Stages.{Is, Then, Continues}
 use Rattle.run_stages.specs.Work.{Work, verified, written, Ends}
 use Rattle.step_vars.specs.Certifies.{Certifies}
-use Rattle.run_stages.specs.Prepare.{bytes_of, or_refuse, check_refusal, verify_refusal, setting_with, CheckedIn, within_verify, JudgesCertificate, as_certified, CertifiedIn, CertifiedOf, VerifiedIn}
+use Rattle.run_stages.specs.Prepare.{bytes_of, or_refuse, check_refusal, verify_refusal, setting_with, CheckedIn, within_verify, as_certified, CertifiedIn, CertifiedOf, VerifiedIn}
 use Rattle.run_stages.specs.Loading.{Counts, Loads}
 use Rattle.run_stages.specs.Judging.{VerifyingText, Verifying}
 use Rattle.run_stages.proofs.Stages.{IsOne, as-one, then_ok, then_err, finishes_ok, finishes_err, reached_value}
@@ -73,7 +73,7 @@ to_verdict steps (Err fault) = Err (faults.Cert fault)
 
 said_of : (inputs : Inputs) (text bytes : List ℕ) (checked : Checked) (said : Result (Unit {0}) CertFault) → IsWithinLimits inputs.trap inputs.circuit text checked
     → JudgesCertificate (setting_with inputs checked) (length checked.schedule) bytes said → Verifies inputs.trap inputs.circuit text bytes (to_verdict (length checked.schedule) said)
-said_of inputs text bytes checked (Ok done) legal judges = record { checked = checked; schedule = legal; long = refl; certifies = judges.0; within = judges.1 }
+said_of inputs text bytes checked (Ok done) legal judges = record { checked = checked; schedule = legal; long = refl; is = judges }
 said_of inputs text bytes checked (Err fault) legal judges = record { checked = checked; schedule = legal; is = judges }
 
 -- what a verification answers exactly
@@ -118,7 +118,8 @@ verified_ok before now cert inputs text shown steps ending verifies exact shown_
     let checked = it.checked in
     let setting = setting_with inputs checked in
     let work = verified setting checked.schedule in
-    let judges : JudgesCertificate setting (length checked.schedule) verifies.bytes (Ok tt) = (subst (Certifies setting verifies.bytes) (sym it.long) it.certifies, it.within) in
+    let judges : JudgesCertificate setting (length checked.schedule) verifies.bytes (Ok tt) =
+    subst (λ (n : ℕ). IsAcceptedCertificate setting n verifies.bytes) (sym it.long) it.is in
     let next : CertifiedOf (Some verifies.bytes) inputs checked (Ok work) =
     then_ok (Is (Ok verifies.bytes)) (CertifiedIn inputs checked) verifies.bytes (Ok work) refl (record { judgement = Ok tt; is = judges; outcome_is = refl }) in
     let ends : Ends work ending.answer ending =

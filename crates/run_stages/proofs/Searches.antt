@@ -10,7 +10,7 @@ use Rattle.sat_base.specs.declared.certificate.Head.{Head}
 use Rattle.sat_base.specs.declared.certificate.Bound.{Bound}
 use Rattle.sat_base.specs.declared.certificate.Bound.TheVariants.{Refutes, Nothing, Open}
 use Rattle.sat_base.specs.Derivation.{Line}
-use Rattle.sat_base.specs.Certificate.{certificate_text, HaveForm}
+use Rattle.sat_base.specs.Certificate.{certificate_text}
 use Rattle.derivation_log.specs.Log.{Lines}
 use Rattle.derivation_log.specs.Printing.{first_lines, line_of, Covers}
 use Rattle.step_rules.specs.declared.action.Action.{Action}
@@ -25,12 +25,12 @@ use Rattle.exact_search.specs.declared.fault.Count.TheVariants as counts
 use Rattle.exact_search.specs.declared.fault.ExactFault.{ExactFault}
 use Rattle.exact_search.specs.declared.fault.ExactFault.TheVariants as exacts
 use Rattle.exact_search.specs.TooLarge.{too_large}
-use Rattle.exact_search.specs.Found.{Answers, HasLines, IsLeastFound, IsNoneWithin, IsSpent, RefutesFewer as RefutesFewerBy}
+use Rattle.exact_search.specs.Found.{Answers, HasLines, IsLeastFound, IsNoneWithin, IsSpent, RefutesFewer}
 use Rattle.request_words.specs.Request.{Search}
 use Rattle.run_answers.specs.declared.answer.Answer.{Answer}
 use Rattle.run_answers.specs.declared.answer.Answer.TheVariants as answers
 use Rattle.run_stages.specs.declared.ending.Ending.{Ending}
-use Rattle.run_stages.specs.Exact.{HasFreshLines, RefutesFewer}
+use Rattle.run_stages.specs.Exact.{HasFreshLines, RefutesFewerByFresh}
 use Rattle.run_stages.specs.Putting.{EndsWith}
 use Rattle.run_stages.specs.Stages.{Is}
 use Rattle.run_stages.specs.Work.{fewest, Ends}
@@ -39,15 +39,12 @@ use Rattle.placement.specs.declared.fault.PlaceFault.{PlaceFault}
 use Rattle.placement.specs.declared.rule.PlaceRule.{PlaceRule}
 use Rattle.placement.specs.Placing.{place_by}
 use Rattle.placement.specs.Faults.{Answers as PlaceAnswers}
+use Rattle.exact_search.proofs.Certify.{counted, no_line}
 use Rattle.run_stages.specs.Prepare.{search_refusal, within_search, Sought as SoughtFrom}
 use Rattle.run_stages.specs.Loading.{Finishes, place_refusal}
 use Rattle.run_stages.proofs.Plans.{from_ok, from_err}
 
 -- ---- certificates with fresh lines
-
--- as many axioms as the parts have
-counted : (setting : SettingValue) (bound : ℕ) (log : Lines) (axioms lines : ℕ) → HasLines setting bound log axioms lines → length (encoding_of setting Counter bound) ≡ axioms
-counted setting bound log axioms lines has = ap length (sym has.parts) ∙ length-take-le axioms log.axioms has.covers.axioms_there
 
 pub fresh_lines : (setting : SettingValue) (says : Bound) (bound : ℕ) (log : Lines) (axioms lines : ℕ) → HasLines setting bound log axioms lines
     → HasFreshLines setting says bound (first_lines log axioms lines) (certificate_text (head_of Counter says) axioms (first_lines log axioms lines))
@@ -56,26 +53,29 @@ fresh_lines setting says bound log axioms lines has =
     let all = first_lines log axioms lines in
     record {
       text = ap (λ (n : ℕ). certificate_text (head_of Counter says) n all) (sym same);
-      form = subst (λ (n : ℕ). HaveForm (vars_up_to setting Counter bound) (n + 1) all) (sym same) has.form;
-      good = has.good;
-      fresh = has.fresh;
+      are = has.are;
     }
 
-no_line : (log : Lines) (axioms lines : ℕ) → lines ≡ 0 → first_lines log axioms lines ≡ []
-no_line log axioms lines none = ap (λ (n : ℕ). first_lines log axioms n) none
+first_count : (log : Lines) (axioms lines : ℕ) → lines ≤ length log.derived → length (first_lines log axioms lines) ≡ lines
+first_count log axioms lines within = length-map (take lines log.derived) (line_of axioms) ∙ length-take-le lines log.derived within
 
-pub fewer_by_fresh : (setting : SettingValue) (steps : ℕ) (log : Lines) (axioms lines : ℕ) → RefutesFewerBy setting steps log axioms lines
-    → RefutesFewer setting steps (certificate_text (head_of Counter (asked steps)) axioms (first_lines log axioms lines))
-fewer_by_fresh setting zero log axioms lines none =
+-- no more lines than the budget, where no more were derived
+first_few : (log : Lines) (axioms lines budget : ℕ) → lines ≤ length log.derived → length log.derived ≤ budget → length (first_lines log axioms lines) ≤ budget
+first_few log axioms lines budget within few = omega (arith, first_count log axioms lines within, within, few)
+
+pub fewer_by_fresh : (setting : SettingValue) (steps budget : ℕ) (log : Lines) (axioms lines : ℕ) → RefutesFewer setting steps log axioms lines → length log.derived ≤ budget
+    → RefutesFewerFresh setting steps budget (certificate_text (head_of Counter (asked steps)) axioms (first_lines log axioms lines))
+fewer_by_fresh setting zero budget log axioms lines none few =
     ap (λ (all : List Line). certificate_text (head_of Counter Nothing) axioms all) (no_line log axioms lines none.1) ∙ append-nil _
-fewer_by_fresh setting (suc bound) log axioms lines has = record {
+fewer_by_fresh setting (suc bound) budget log axioms lines has few = record {
   lines = first_lines log axioms lines;
   are = fresh_lines setting (Refutes bound) bound log axioms lines has.over;
+  few = first_few log axioms lines budget has.over.covers.lines_there few;
   ends = has.ends;
 }
 
 -- the lines of a search can be printed
-pub covers_fewer : (setting : SettingValue) (steps : ℕ) (log : Lines) (axioms lines : ℕ) → RefutesFewerBy setting steps log axioms lines → Covers log axioms lines
+pub covers_fewer : (setting : SettingValue) (steps : ℕ) (log : Lines) (axioms lines : ℕ) → RefutesFewer setting steps log axioms lines → Covers log axioms lines
 covers_fewer setting zero log axioms lines none =
     subst (λ (n : ℕ). Covers log n lines) (sym none.0) (subst (λ (n : ℕ). Covers log 0 n) (sym none.1)
     (record { axioms_there = omega arith; lines_there = omega arith; hints_there = λ j d less. absurd (omega (arith, less)) }))
@@ -84,7 +84,7 @@ covers_fewer setting (suc bound) log axioms lines has = has.over.covers
 -- ---- what a search ends with
 
 abbrev pub Certify : Type 0
-Certify = (setting : SettingValue) (steps : ℕ) (log : Lines) (axioms lines : ℕ) → steps < 2 ^ 32 → RefutesFewerBy setting steps log axioms lines
+Certify = (setting : SettingValue) (steps : ℕ) (log : Lines) (axioms lines : ℕ) → steps < 2 ^ 32 → RefutesFewer setting steps log axioms lines
     → Certifies setting (certificate_text (head_of Counter (asked steps)) axioms (first_lines log axioms lines)) steps
 
 pub least_ends : (certify : Certify) (setting : SettingValue) (max budget : ℕ) (schedule : List (List Action)) (log : Lines) (axioms lines : ℕ) (ending : Ending) → max ≤ 48 → IsLeastFound setting max budget schedule log axioms lines
@@ -100,7 +100,7 @@ least_ends certify setting max budget schedule log axioms lines ending few found
     put = certificate_text (head_of Counter (asked (length schedule))) axioms (first_lines log axioms lines);
     put_is = ends.put_is;
     certifies = certify setting (length schedule) log axioms lines (omega (arith, few, found.within)) found.fewer;
-    fresh = fewer_by_fresh setting (length schedule) log axioms lines found.fewer;
+    fresh = fewer_by_fresh setting (length schedule) budget log axioms lines found.fewer found.few;
   },
 )
 
@@ -117,13 +117,11 @@ none_ends setting max budget log lines ending found ends = inr (inl (
     refutes = record {
       lines = first_lines log (length log.axioms) lines;
       are = fresh_lines setting (Refutes max) max log (length log.axioms) lines found.refutation.over;
+      few = first_few log (length log.axioms) lines budget found.refutation.over.covers.lines_there found.few;
       ends = found.refutation.ends;
     };
   },
 ))
-
-first_count : (log : Lines) (axioms lines : ℕ) → lines ≤ length log.derived → length (first_lines log axioms lines) ≡ lines
-first_count log axioms lines within = length-map (take lines log.derived) (line_of axioms) ∙ length-take-le lines log.derived within
 
 pub spent_ends : (setting : SettingValue) (max budget : ℕ) (log : Lines) (bound lines : ℕ) (ending : Ending) → IsSpent setting max budget log bound → lines ≡ length log.derived
     → EndsWith (answers.Budget budget) (certificate_text (head_of Counter (Open bound)) (length log.axioms) (first_lines log (length log.axioms) lines)) [] ending

@@ -14,7 +14,6 @@ use Rattle.greedy_router.specs.Room.{JudgesRoom}
 use Rattle.step_rules.specs.declared.action.Action.{Action}
 use Rattle.placement.specs.Placing.{Table, place_by}
 use Rattle.step_rules.specs.Setting.{SettingValue, setting_of}
-use Rattle.step_vars.specs.Certifies.{Certifies}
 use Rattle.derivation_check.specs.declared.cert_fault.CertFault.{CertFault}
 use Rattle.exact_search.specs.declared.fault.Count.{Count as SearchCount}
 use Rattle.exact_search.specs.declared.fault.Count.TheVariants as search_counts
@@ -26,7 +25,7 @@ use Rattle.verify_core.specs.declared.verify_fault.Count.{Count as VerifyCount}
 use Rattle.verify_core.specs.declared.verify_fault.Count.TheVariants as verify_counts
 use Rattle.verify_core.specs.declared.verify_fault.VerifyFault.{VerifyFault}
 use Rattle.verify_core.specs.declared.verify_fault.VerifyFault.TheVariants as verifies
-use Rattle.verify_core.specs.Verifying.{too_large as verify_too_large, HasCertFault}
+use Rattle.verify_core.specs.Verifying.{too_large as verify_too_large, JudgesCertificate}
 use Rattle.verify_core.specs.Judging.{Judges}
 use Rattle.verify_core.specs.declared.fault.CheckFault.{CheckFault}
 use Rattle.verify_core.specs.declared.fault.CheckFault.TheVariants as checks
@@ -195,13 +194,6 @@ abbrev pub within_verify : Inputs → Checked → Result Checked Answer
 within_verify inputs checked =
     option_map_or (λ fault. Err (verify_refusal fault))
     (verify_too_large (setting_with inputs checked) (length checked.schedule)) (Ok checked)
-
--- what the bytes are: a certificate that no schedule has fewer steps, of at most the limit, or their first
--- fault
-abbrev pub JudgesCertificate : SettingValue → ℕ → List ℕ → Result (Unit {0}) CertFault → Type 0
-JudgesCertificate setting steps bytes (Ok done) =
-    Certifies setting bytes steps × (length bytes ≤ limit_of Certificate)
-JudgesCertificate setting steps bytes (Err fault) = HasCertFault setting steps bytes fault
 
 -- a schedule whose certificate holds is verified
 abbrev pub as_certified : Inputs → Checked → Result (Unit {0}) CertFault → Result Work Answer

@@ -75,8 +75,8 @@ pub record IsLoaded (seed : ℕ) (ending : Ending) : Type 0 where
 -- A search may end in three answers, and may choose among schedules and among lines.
 abbrev pub EndsSearch : SettingValue → ℕ → ℕ → Answer → Ending → Type 0
 EndsSearch setting max budget answer ending =
-    ((answer ≡ answers.Ok) × IsLeastWritten setting max ending)
-    ⊎ (((answer ≡ answers.NoneWithin max) × IsNoneFound setting max ending)
+    ((answer ≡ answers.Ok) × IsLeastWritten setting max budget ending)
+    ⊎ (((answer ≡ answers.NoneWithin max) × IsNoneFound setting max budget ending)
     ⊎ ((answer ≡ answers.Budget budget) × IsBudgetSpent setting max budget ending))
 
 -- the work may end in this answer, with this put and written

@@ -18,7 +18,7 @@ use Rattle.verify_core.specs.declared.verify_fault.VerifyFault.{VerifyFault}
 use Rattle.verify_core.specs.declared.verify_fault.VerifyFault.TheVariants.{Check, TooLarge, Failed, Cert, NoMemory}
 use Rattle.verify_core.specs.Faults.{of_check}
 use Rattle.verify_core.specs.Judging.{IsLegalText, Judges, JudgesUnlessMemory}
-use Rattle.verify_core.specs.Verifying.{above, too_large, IsWithinLimits, IsVerified, Verifies, VerifiesUnlessFailed, IsAnswerUnlessFailed, KeepsCounts}
+use Rattle.verify_core.specs.Verifying.{above, too_large, IsAcceptedCertificate, IsWithinLimits, IsVerified, Verifies, VerifiesUnlessFailed, IsAnswerUnlessFailed, KeepsCounts}
 use Rattle.verify_core.specs.Reading.{Judged, JudgedContent, JudgedUnlessFailed}
 use Rattle.verify_core.proofs.Contents.{one_content}
 
@@ -142,7 +142,7 @@ too_large_exact trap circuit text bytes said checked fault one legal e has = as_
 
 pub verified : (shelf : ShelfFacts) (name : List ℕ) (trap : TrapValue) (circuit : CircuitValue) (text : List ℕ) (checked : Checked) → IsWithinLimits trap circuit text checked
     → (judged : JudgedContent shelf name (setting_of trap circuit checked.placement) (length checked.schedule) (Ok tt)) → IsVerified trap circuit text judged.bytes (length checked.schedule)
-verified shelf name trap circuit text checked within judged = record { checked = checked; schedule = within; long = refl; certifies = judged.judged.certifies; within = judged.judged.within }
+verified shelf name trap circuit text checked within judged = record { checked = checked; schedule = within; long = refl; is = judged.judged }
 
 pub ok_answer : (shelf : ShelfFacts) (name : List ℕ) (trap : TrapValue) (circuit : CircuitValue) (text : List ℕ) (checked : Checked) → IsWithinLimits trap circuit text checked
     → JudgedContent shelf name (setting_of trap circuit checked.placement) (length checked.schedule) (Ok tt) → VerifiesUnlessFailed shelf name trap circuit text (Ok (length checked.schedule))
@@ -175,10 +175,7 @@ judged_so trap circuit text bytes (Ok steps) checked one within has =
     let same = same_checked trap circuit text has.checked checked one has.schedule.legal within.legal in
     let own : IsJudgedSo trap circuit has.checked bytes (Ok steps) = record {
       answer = Ok tt;
-      judged = record {
-        certifies = subst (Certifies (setting_of trap circuit has.checked.placement) bytes) (sym has.long) has.certifies;
-        within = has.within;
-      };
+      judged = subst (λ (n : ℕ). IsAcceptedCertificate (setting_of trap circuit has.checked.placement) n bytes) (sym has.long) has.is;
       is = ap (λ (n : ℕ). Ok n) (sym has.long);
     } in
     subst (λ (it : Checked). IsJudgedSo trap circuit it bytes (Ok steps)) same own

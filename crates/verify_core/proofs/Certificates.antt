@@ -19,10 +19,10 @@ use Rattle.step_vars.specs.declared.encoding.Encoding.TheVariants.{Pairwise, Cou
 use Rattle.step_vars.specs.Encoding.{encoding_of, goal_literal}
 use Rattle.step_vars.specs.Certifies.{vars_up_to, encoding_number, head_of, asked, IsRefutation, Certifies}
 use Rattle.verify_core.specs.declared.verification.TheConstants.{LIMIT}
-use Rattle.verify_core.specs.Verifying.{BeginsWithHead, AsksOtherwise, task_for, HasFaultAfter, HasFaultInLines, HasCertFault}
+use Rattle.verify_core.specs.Verifying.{IsAcceptedCertificate, BeginsWithHead, AsksOtherwise, task_for, HasFaultAfter, HasFaultInLines, HasCertFault}
 use Rattle.verify_core.specs.declared.verify_fault.VerifyFault.{VerifyFault}
 use Rattle.verify_core.specs.declared.verify_fault.VerifyFault.TheVariants.{Check, TooLarge, Failed, Cert, NoMemory as NoMemoryHere}
-use Rattle.verify_core.specs.Reading.{IsAccepted, Judged}
+use Rattle.verify_core.specs.Reading.{Judged}
 
 -- ---- heads
 
@@ -92,7 +92,7 @@ as_answer setting bound bytes has within =
     }
 
 -- after that head its bytes are a refutation
-refutation_after : (setting : SettingValue) (bound : ℕ) (bytes : List ℕ) (encoding : Encoding) (rest : List ℕ) → IsAccepted setting (suc bound) bytes
+refutation_after : (setting : SettingValue) (bound : ℕ) (bytes : List ℕ) (encoding : Encoding) (rest : List ℕ) → IsAcceptedCertificate setting (suc bound) bytes
     → BeginsWithHead bytes encoding (Refutes bound) rest
     → (count : ℕ) × Answers (task_for setting encoding bound) rest (goal_literal setting encoding bound) (Ok count)
 refutation_after setting bound bytes encoding rest accepted begins =
@@ -144,7 +144,7 @@ fault_is_some fault other e = other (is_err ℕ fault NoMemory e)
 
 -- lines that are accepted have no fault
 pub lines_refused : (setting : SettingValue) (steps : ℕ) (bytes : List ℕ) (fault : CertFault) → (has : HasFaultInLines setting steps bytes fault)
-    → ((bound : ℕ) → steps ≡ suc bound → IsSmall (task_for setting has.encoding bound)) → IsAccepted setting steps bytes → ⊥
+    → ((bound : ℕ) → steps ≡ suc bound → IsSmall (task_for setting has.encoding bound)) → IsAcceptedCertificate setting steps bytes → ⊥
 lines_refused setting zero bytes fault has small accepted =
     let as_asked = begins_as_asked setting zero bytes accepted.certifies in
     let certifies = accepted.certifies in
@@ -159,7 +159,7 @@ lines_refused setting (suc bound) bytes fault has small accepted =
     ok.1 (ok_is_some ok.0) has.is.1 (fault_is_some fault has.is.0))
 
 -- what certifies has no fault
-pub not_refused : (setting : SettingValue) (steps : ℕ) (bytes : List ℕ) (fault : CertFault) → AreSmall setting steps bytes → IsAccepted setting steps bytes → HasCertFault setting steps bytes fault → ⊥
+pub not_refused : (setting : SettingValue) (steps : ℕ) (bytes : List ℕ) (fault : CertFault) → AreSmall setting steps bytes → IsAcceptedCertificate setting steps bytes → HasCertFault setting steps bytes fault → ⊥
 not_refused setting steps bytes fault small accepted refused =
     let as_asked = begins_as_asked setting steps bytes accepted.certifies in
     let begins = as_asked.1.1 in

@@ -21,8 +21,8 @@ use Rattle.verify_core.specs.declared.verification.TheConstants.{LIMIT}
 use Rattle.verify_core.specs.declared.verify_fault.VerifyFault.{VerifyFault}
 use Rattle.verify_core.specs.declared.verify_fault.VerifyFault.TheVariants.{Check, TooLarge, Failed, Cert, NoMemory}
 use Rattle.verify_core.specs.Faults.{of_cert}
-use Rattle.verify_core.specs.Verifying.{BeginsWithHead, task_for, HasFaultInLines}
-use Rattle.verify_core.specs.Reading.{BeginsContent, IsAccepted, IsFeeding, WasFedAll, HasFaultLater, IsReady, IsOfReading, Judged, JudgedContent, JudgedUnlessFailed}
+use Rattle.verify_core.specs.Verifying.{IsAcceptedCertificate, BeginsWithHead, task_for, HasFaultInLines}
+use Rattle.verify_core.specs.Reading.{BeginsContent, IsFeeding, WasFedAll, HasFaultLater, IsReady, IsOfReading, Judged, JudgedContent, JudgedUnlessFailed}
 use Rattle.verify_core.proofs.Contents.{whole_content}
 use Rattle.verify_core.proofs.Certificates.{small_by_head, one_judged}
 use Rattle.verify_core.proofs.Minimums.{asked_head}
@@ -149,7 +149,7 @@ last_fault shelf name setting encoding bound head fed fault small is content ans
 
 -- all bytes were fed, and they are a refutation
 pub all_accepted : (setting : SettingValue) (encoding : Encoding) (bound count : ℕ) (head fed : List ℕ) → bound < 2 ^ 32 → head ≡ head_text (head_of encoding (Refutes bound)) → length head ≤ LIMIT
-    → Answers (task_for setting encoding bound) fed (goal_literal setting encoding bound) (Ok count) → IsAccepted setting (suc bound) (head ++ fed)
+    → Answers (task_for setting encoding bound) fed (goal_literal setting encoding bound) (Ok count) → IsAcceptedCertificate setting (suc bound) (head ++ fed)
 all_accepted setting encoding bound count head fed small is short answer =
     let formula = encoding_of setting encoding bound in
     let vars = vars_up_to setting encoding bound in

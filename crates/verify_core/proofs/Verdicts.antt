@@ -28,8 +28,7 @@ use Rattle.verify_core.specs.declared.verify_fault.Count.TheVariants.{Ions, Plac
 use Rattle.verify_core.specs.declared.verify_fault.VerifyFault.{VerifyFault}
 use Rattle.verify_core.specs.declared.verify_fault.VerifyFault.TheVariants.{Check, TooLarge, Failed, Cert, NoMemory}
 use Rattle.verify_core.specs.Judging.{IsLegalText, Judges}
-use Rattle.verify_core.specs.Verifying.{above, too_large, task_for, HasCertFault, IsWithinLimits, IsVerified, IsUncertified, Verifies, IsLeastText}
-use Rattle.verify_core.specs.Reading.{IsAccepted}
+use Rattle.verify_core.specs.Verifying.{above, too_large, task_for, HasCertFault, IsAcceptedCertificate, IsWithinLimits, IsVerified, IsUncertified, Verifies, IsLeastText}
 use Rattle.verify_core.proofs.Judging.{OneFault, NotBoth, judged_once}
 use Rattle.verify_core.proofs.Certificates.{not_refused, one_fault}
 
@@ -89,11 +88,9 @@ abbrev setting_at : TrapValue → CircuitValue → Checked → SettingValue
 setting_at trap circuit checked = setting_of trap circuit checked.placement
 
 accepted : (trap : TrapValue) (circuit : CircuitValue) (text bytes : List ℕ) (steps : ℕ) → (has : IsVerified trap circuit text bytes steps)
-    → IsAccepted (setting_at trap circuit has.checked) (length has.checked.schedule) bytes
-accepted trap circuit text bytes steps has = record {
-  certifies = subst (Certifies (setting_at trap circuit has.checked) bytes) (sym has.long) has.certifies;
-  within = has.within;
-}
+    → IsAcceptedCertificate (setting_at trap circuit has.checked) (length has.checked.schedule) bytes
+accepted trap circuit text bytes steps has =
+    subst (λ (n : ℕ). IsAcceptedCertificate (setting_at trap circuit has.checked) n bytes) (sym has.long) has.is
 
 not_too_large : (trap : TrapValue) (circuit : CircuitValue) (text : List ℕ) (a b : Checked) (fault : VerifyFault) → a ≡ b → IsWithinLimits trap circuit text a
     → too_large (setting_at trap circuit b) (length b.schedule) ≡ Some fault → ⊥

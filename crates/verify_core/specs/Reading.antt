@@ -16,7 +16,7 @@ use Rattle.step_vars.specs.Certifies.{Certifies}
 use Rattle.verify_core.specs.declared.verification.TheConstants.{LIMIT}
 use Rattle.verify_core.specs.declared.verify_fault.VerifyFault.{VerifyFault}
 use Rattle.verify_core.specs.declared.verify_fault.VerifyFault.TheVariants.{Check, TooLarge, Failed, Cert, NoMemory}
-use Rattle.verify_core.specs.Verifying.{KeepsCounts, HasCertFault, task_for}
+use Rattle.verify_core.specs.Verifying.{KeepsCounts, JudgesCertificate, task_for}
 
 -- what a certificate has to show: that no schedule that plays has fewer steps
 pub record MinimumValue : Type 0 where
@@ -83,15 +83,10 @@ pub record WasRead {T : Type 0} (answer : Result T VerifyFault) (old new : Shelf
   pub reads : OnlyReads old new
   pub stays : KeepsCounts answer old new
 
--- the bytes certify so many steps, within the limit
-pub record IsAccepted (setting : SettingValue) (steps : ℕ) (bytes : List ℕ) : Type 0 where
-  pub certifies : Certifies setting bytes steps
-  pub within : length bytes ≤ LIMIT
-
--- what the bytes are as a certificate for so many steps
+-- what the bytes are as a certificate for so many steps, where a fault of the certificate is one of all faults
 abbrev pub Judged : SettingValue → ℕ → List ℕ → Result (Unit {0}) VerifyFault → Type 0
-Judged setting steps bytes (Ok done) = IsAccepted setting steps bytes
-Judged setting steps bytes (Err (Cert fault)) = HasCertFault setting steps bytes fault
+Judged setting steps bytes (Ok done) = JudgesCertificate setting steps bytes (Ok done)
+Judged setting steps bytes (Err (Cert fault)) = JudgesCertificate setting steps bytes (Err fault)
 Judged setting steps bytes (Err fault) = ⊥
 
 -- the same of the content of a shelf, and the content is nothing else

@@ -1,5 +1,5 @@
 -- How the text of a schedule and a certificate are judged together.
-use Rattle.std.specs.Prelude.{◌≡◌, ◌≢◌, ℕ, zero, suc, ◌-◌, ◌≤◌, ◌⊎◌, nat_lt, if◌then◌else◌, List, ◌++◌, length, Option, None, Some, Result, Ok, Err}
+use Rattle.std.specs.Prelude.{◌≡◌, ◌≢◌, ℕ, zero, suc, ◌-◌, ◌≤◌, ◌⊎◌, nat_lt, if◌then◌else◌, List, ◌++◌, length, Option, None, Some, Result, Ok, Err, tt}
 use Rattle.qc_base.specs.Shelf.{ShelfFacts, IsContent, SameCounts}
 use Rattle.sat_base.specs.declared.certificate.Bound.{Bound}
 use Rattle.sat_base.specs.Certificate.{head_text}
@@ -83,6 +83,16 @@ HasCertFault setting steps bytes fault =
     ⊎ (((fault ≡ NotRefuting) × AsksOtherwise steps bytes)
     ⊎ HasFaultInLines setting steps bytes fault)
 
+-- the bytes certify that no schedule has fewer than so many steps, and are no more than the limit
+pub record IsAcceptedCertificate (setting : SettingValue) (steps : ℕ) (bytes : List ℕ) : Type 0 where
+  pub certifies : Certifies setting bytes steps
+  pub within : length bytes ≤ LIMIT
+
+-- what the bytes are as a certificate for so many steps: one that is accepted, or their first fault
+abbrev pub JudgesCertificate : SettingValue → ℕ → List ℕ → Result (Unit {0}) CertFault → Type 0
+JudgesCertificate setting steps bytes (Ok done) = IsAcceptedCertificate setting steps bytes
+JudgesCertificate setting steps bytes (Err fault) = HasCertFault setting steps bytes fault
+
 -- ---- both together
 
 -- the text is that of a legal schedule, whose counts are within the limits
@@ -91,22 +101,21 @@ pub record IsWithinLimits (trap : TrapValue) (circuit : CircuitValue) (text : Li
   pub legal : IsLegalText trap circuit text checked
   pub small : too_large (setting_of trap circuit checked.placement) (length checked.schedule) ≡ None
 
--- and the bytes, no more than the limit, certify that none has fewer steps
+-- and the bytes are a certificate that none has fewer steps
 pub record IsVerified (trap : TrapValue) (circuit : CircuitValue) (text bytes : List ℕ) (steps : ℕ)
     : Type 0 where
   pub checked : Checked
   pub schedule : IsWithinLimits trap circuit text checked
   pub long : length checked.schedule ≡ steps
-  pub certifies : Certifies (setting_of trap circuit checked.placement) bytes steps
-  pub within : length bytes ≤ LIMIT
+  pub is : JudgesCertificate (setting_of trap circuit checked.placement) steps bytes (Ok tt)
 
 -- and the bytes are no such certificate
 pub record IsUncertified (trap : TrapValue) (circuit : CircuitValue) (text bytes : List ℕ) (fault : CertFault)
     : Type 0 where
   pub checked : Checked
   pub schedule : IsWithinLimits trap circuit text checked
-  pub is : HasCertFault (setting_of trap circuit checked.placement) (length checked.schedule)
-      bytes fault
+  pub is : JudgesCertificate (setting_of trap circuit checked.placement) (length checked.schedule) bytes
+      (Err fault)
 
 -- the text is that of a legal schedule, with a count above its limit
 pub record IsTooLarge (trap : TrapValue) (circuit : CircuitValue) (text : List ℕ) (fault : VerifyFault)
@@ -146,8 +155,10 @@ VerifiesUnlessFailed shelf name trap circuit text (Err (Cert fault)) =
     VerifiesContent shelf name trap circuit text (Err (Cert fault))
 VerifiesUnlessFailed shelf name trap circuit text (Err Failed) = HasLegalText trap circuit text
 VerifiesUnlessFailed shelf name trap circuit text (Err NoMemory) = Unit {0}
-VerifiesUnlessFailed shelf name trap circuit text (Err fault) =
-    (bytes : List ℕ) → Verifies trap circuit text bytes (Err fault)
+VerifiesUnlessFailed shelf name trap circuit text (Err (Check fault)) =
+    (bytes : List ℕ) → Verifies trap circuit text bytes (Err (Check fault))
+VerifiesUnlessFailed shelf name trap circuit text (Err (TooLarge what count)) =
+    (bytes : List ℕ) → Verifies trap circuit text bytes (Err (TooLarge what count))
 
 -- the text is that of a schedule of so many steps, and none that plays from its placement has fewer
 pub record IsLeastText (trap : TrapValue) (circuit : CircuitValue) (text : List ℕ) (steps : ℕ)
