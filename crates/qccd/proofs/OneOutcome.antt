@@ -1,5 +1,5 @@
 -- Words and files come to one outcome.
-use Rattle.std.proofs.Common.{◌≡◌, List, ℕ, Result, Ok, Err, sym, ◌∙◌, subst}
+use Rattle.std.proofs.Common.{◌≡◌, List, ℕ, Result, Ok, sym, subst}
 use Rattle.std.specs.Option.{ok_or}
 use Rattle.request_words.specs.declared.file.File.TheVariants as files
 use Rattle.request_words.specs.Request.{Asked, verify, request_of}
@@ -7,25 +7,14 @@ use Rattle.run_answers.specs.declared.answer.Answer.{Answer}
 use Rattle.run_answers.specs.declared.answer.Answer.TheVariants as answers
 use Rattle.run_stages.specs.declared.inputs.Inputs.{Inputs}
 use Rattle.run_stages.specs.Work.{Work}
-use Rattle.run_stages.specs.Stages.{Continues, Then, Is}
+use Rattle.run_stages.specs.Stages.{Is}
 use Rattle.run_stages.specs.Found.{Found}
 use Rattle.run_stages.specs.Prepare.{bytes_of, InputsOf, VerifiedIn, VerifiedOf, inputs_of, Comes, Prepares}
-use Rattle.run_stages.proofs.Stages.{IsOne, inputs_of-one}
+use Rattle.run_stages.proofs.Stages.{IsOne, after-one, inputs_of-one}
 use Rattle.run_stages.proofs.Outcomes.{fixed-one, comes-one}
 use Rattle.qccd.proofs.Went.{went}
 use Rattle.qccd.proofs.RoundTrip.{trap_right, circuit_right}
 use Rattle.run_stages.proofs.Certified.{AreSound, OneVerification, verified-one}
-
--- ---- a stage after a first one, of which the value is known
-
-continues_one : {X Y : Type 0} (first : Result X Answer → Type 0) (next : X → Result Y Answer → Type 0) (given : Result X Answer) (a b : Result Y Answer) → ((x : X) → first (Ok x) → IsOne (next x))
-    → first given → Continues next given a → Continues next given b → a ≡ b
-continues_one first next (Ok x) a b one is p q = one x is a b p q
-continues_one first next (Err answer) a b one is p q = p ∙ sym q
-
-after-one : {X Y : Type 0} (first : Result X Answer → Type 0) (next : X → Result Y Answer → Type 0) → IsOne first → ((x : X) → first (Ok x) → IsOne (next x)) → IsOne (Then first next)
-after-one first next one one_next a b p q =
-    continues_one first next p.given a b one_next p.is p.continues (subst (λ given. Continues next given b) (sym (one p.given q.given p.is q.is)) q.continues)
 
 -- ---- a verification
 

@@ -30,7 +30,7 @@ use Rattle.step_vars.specs.Certifies.{Certifies}
 use Rattle.run_stages.specs.Prepare.{bytes_of, or_refuse, check_refusal, verify_refusal, setting_with, CheckedIn, within_verify, as_certified, CertifiedIn, CertifiedOf, VerifiedIn}
 use Rattle.run_stages.specs.Loading.{Counts, Loads}
 use Rattle.run_stages.specs.Judging.{VerifyingText, Verifying}
-use Rattle.run_stages.proofs.Stages.{IsOne, as-one, then_ok, then_err, finishes_ok, finishes_err, reached_value}
+use Rattle.run_stages.proofs.Stages.{after-one, IsOne, as-one, then_ok, then_err, finishes_ok, finishes_err, reached_value}
 use Rattle.run_stages.proofs.Reading.{counts_failed, same_err, found_before, found_after}
 use Rattle.run_stages.proofs.Outcomes.{fixed-one, next_of, refused_early, only_then, only_early}
 
@@ -307,15 +307,8 @@ judged_as : (said : Result Checked CheckFault) (checked : Checked) → Ok checke
 judged_as (Ok other) checked e = cc
 judged_as (Err fault) checked e = absurd cc
 
-after_check : OneVerification → (certificate : Option (List ℕ)) (inputs : Inputs) (text : List ℕ) (given : Result Checked Answer) (a b : Result Work Answer) → AreSound inputs → CheckedIn inputs text given
-    → Continues (λ c. Then (Is (within_verify inputs c)) (CertifiedOf certificate inputs)) given a → Continues (λ c. Then (Is (within_verify inputs c)) (CertifiedOf certificate inputs)) given b → a ≡ b
-after_check one certificate inputs text (Err answer) a b sound is p q = p ∙ sym q
-after_check one certificate inputs text (Ok checked) a b sound is p q =
-    let judges = subst (Judges inputs.trap inputs.circuit text) (judged_as is.judgement checked is.outcome_is) is.is in
-    within-one one certificate inputs text checked (too_large (setting_with inputs checked) (length checked.schedule)) sound judges refl a b p q
-
 pub verified-one : OneVerification → (certificate : Option (List ℕ)) (inputs : Inputs) (text : List ℕ) → AreSound inputs → IsOne (VerifiedIn certificate inputs text)
-verified-one one certificate inputs text sound a b p q =
-    let next = λ (c : Checked). Then (Is (within_verify inputs c)) (CertifiedOf certificate inputs) in
-    after_check one certificate inputs text p.given a b sound p.is p.continues
-    (subst (λ given. Continues next given b) (sym (checked-one inputs text p.given q.given p.is q.is)) q.continues)
+verified-one one certificate inputs text sound =
+    after-one (CheckedIn inputs text) (λ (c : Checked). Then (Is (within_verify inputs c)) (CertifiedOf certificate inputs)) (checked-one inputs text)
+    (λ (checked : Checked) is. within-one one certificate inputs text checked (too_large (setting_with inputs checked) (length checked.schedule)) sound
+    (subst (Judges inputs.trap inputs.circuit text) (judged_as is.judgement checked is.outcome_is) is.is) refl)

@@ -15,13 +15,18 @@ use Rattle.run_stages.specs.Loading.{Reached, Finishes}
 abbrev pub IsOne : {X : Type 0} → (Result X Answer → Type 0) → Type 0
 IsOne {X} stage = (a b : Result X Answer) → stage a → stage b → a ≡ b
 
-continues-one : {X Y : Type 0} (next : X → Result Y Answer → Type 0) (given : Result X Answer) (a b : Result Y Answer) → ((x : X) → IsOne (next x)) → Continues next given a → Continues next given b → a ≡ b
-continues-one next (Ok x) a b one p q = one x a b p q
-continues-one next (Err answer) a b one p q = p ∙ sym q
+continues-one : {X Y : Type 0} (first : Result X Answer → Type 0) (next : X → Result Y Answer → Type 0) (given : Result X Answer) (a b : Result Y Answer) → ((x : X) → first (Ok x) → IsOne (next x))
+    → first given → Continues next given a → Continues next given b → a ≡ b
+continues-one first next (Ok x) a b one is p q = one x is a b p q
+continues-one first next (Err answer) a b one is p q = p ∙ sym q
+
+-- a stage after a first one, of which the value is known
+pub after-one : {X Y : Type 0} (first : Result X Answer → Type 0) (next : X → Result Y Answer → Type 0) → IsOne first → ((x : X) → first (Ok x) → IsOne (next x)) → IsOne (Then first next)
+after-one first next one one_next a b p q =
+    continues-one first next p.given a b one_next p.is p.continues (subst (λ given. Continues next given b) (sym (one p.given q.given p.is q.is)) q.continues)
 
 pub then-one : {X Y : Type 0} (first : Result X Answer → Type 0) (next : X → Result Y Answer → Type 0) → IsOne first → ((x : X) → IsOne (next x)) → IsOne (Then first next)
-then-one first next one one_next a b p q =
-    continues-one next p.given a b one_next p.continues (subst (λ given. Continues next given b) (sym (one p.given q.given p.is q.is)) q.continues)
+then-one first next one one_next = after-one first next one (λ x is. one_next x)
 
 pub as-one : {R X : Type 0} (judges : R → Type 0) (see : R → Result X Answer) → ((a b : R) → judges a → judges b → a ≡ b) → IsOne (As judges see)
 as-one judges see one a b p q = p.outcome_is ∙ ap see (one p.judgement q.judgement p.is q.is) ∙ sym q.outcome_is
