@@ -24,7 +24,7 @@ use Rattle.request_words.specs.declared.file.File.{File}
 use Rattle.request_words.specs.declared.file.File.TheVariants as files
 use Rattle.run_stages.specs.declared.inputs.Inputs.{Inputs}
 use Rattle.run_stages.specs.declared.ending.Ending.{Ending}
-use Rattle.run_stages.specs.Stages.{Is, Then, Continues}
+use Rattle.run_stages.specs.Stages.{Is, Then}
 use Rattle.run_stages.specs.Work.{Work, verified, written, Ends}
 use Rattle.step_vars.specs.Certifies.{Certifies}
 use Rattle.run_stages.specs.Prepare.{bytes_of, or_refuse, check_refusal, verify_refusal, setting_with, CheckedIn, within_verify, as_certified, CertifiedIn, CertifiedOf, VerifiedIn}
