@@ -36,7 +36,7 @@ ok_is_within : (spent : ℕ) → answers.Ok ≢ answers.Budget spent
 ok_is_within spent e = cc
 
 -- a search that ends in Ok
-least_written : (setting : SettingValue) (max budget : ℕ) (ending : Ending) → EndsSearch setting max budget answers.Ok ending → IsLeastWritten setting max budget ending
+pub least_written : (setting : SettingValue) (max budget : ℕ) (ending : Ending) → EndsSearch setting max budget answers.Ok ending → IsLeastWritten setting max budget ending
 least_written setting max budget ending (inl least) = least.1
 least_written setting max budget ending (inr (inl none)) = absurd (ok_is_found max none.0)
 least_written setting max budget ending (inr (inr spent)) = absurd (ok_is_within budget spent.0)

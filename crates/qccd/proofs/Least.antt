@@ -1,5 +1,6 @@
 -- The schedule of a verification is least, and what exact mode wrote and put is verified.
 use Rattle.std.proofs.Common.{◌≡◌, ℕ, ◌≤◌, ◌^◌, List, length, Option, Some, None, Result, Ok, Err, Bool, true, false, cond, refl, sym, ap, subst, ◌∙◌}
+use Rattle.std.specs.Prelude.{IfSome}
 use Rattle.std.specs.Option.{ok_or, option_map_or}
 use Rattle.std.proofs.Math.Dec.{ltb}
 use Rattle.std.proofs.lemmas.Bool.{ltb-false, le-ltb}
@@ -33,15 +34,15 @@ use Rattle.request_words.specs.Request.{Asked, Search, compile, check, verify, r
 use Rattle.run_answers.specs.declared.answer.Answer.{Answer}
 use Rattle.run_answers.specs.declared.answer.Answer.TheVariants as answers
 use Rattle.run_stages.specs.declared.inputs.Inputs.{Inputs}
-use Rattle.run_stages.specs.declared.ending.Ending.{Ending}
-use Rattle.run_stages.specs.Work.{Work, make, fewest, judged, reported, verified, loaded}
-use Rattle.run_stages.specs.Exact.{IsLeastWritten}
+use Rattle.run_stages.specs.Work.{Work, make, fewest, judged, reported, verified, loaded, Ends, EndsSearch}
 use Rattle.run_stages.specs.Stages.{Is, Then}
 use Rattle.run_stages.specs.Found.{Found}
 use Rattle.run_stages.specs.Prepare.{bytes_of, or_refuse, check_refusal, verify_refusal, setting_with, inputs_of, InputsOf, Routed, within_search, as_judged, JudgedFor, CheckedIn, within_verify, as_certified, CertifiedIn, CertifiedOf, VerifiedIn, VerifiedOf, Comes, Prepares}
 use Rattle.run_stages.proofs.Stages.{then_ok}
-use Rattle.qccd.specs.RoundTrip.{IsAccepted}
+use Rattle.qccd.specs.Run.{Devices, Writes}
+use Rattle.qccd.specs.RoundTrip.{IsFoundAgain, IsAccepted}
 use Rattle.qccd.proofs.Went.{went, asked_for, placed_by, routed_work, sought_work}
+use Rattle.qccd.proofs.Compiled.{least_written}
 use Rattle.qccd.proofs.RoundTrip.{IsReadAgain, circuit_right, trap_right, read_again, comes_by}
 
 -- ---- where a verification comes to work
@@ -211,9 +212,6 @@ within_both setting max steps none few =
 
 -- ---- what was written and put is verified
 
-same_fewest : (a b : SettingValue) (max max_b budget budget_b : ℕ) → fewest a max budget ≡ fewest b max_b budget_b → (a ≡ b) × (max ≡ max_b)
-same_fewest a b max max_b budget budget_b e = (cc, cc)
-
 -- the certificate of the steps that were read
 certified_again : (found : Found) (setting : SettingValue) (steps : List (List Action)) (text cert : List ℕ) (again : IsReadAgain found setting steps text) → verify_too_large setting (length steps) ≡ None
     → Certifies setting cert (length steps) → found.certificate ≡ Some cert → length cert ≤ 2 ^ 50
@@ -236,24 +234,25 @@ certified_again found setting steps text cert again small certifies there few =
     (then_ok (Is (ok_or found.certificate (answers.ReadFault files.Certificate))) (CertifiedIn inputs checked) cert (Ok work) read
     (record { judgement = Ok tt; is = record { certifies = holds; within = few }; outcome_is = refl }))))))
 
-pub certified_verified : (found again : Found) (words verify_words : List (List ℕ)) (circuit trap circuit_again trap_again schedule cert : List ℕ) (rule : PlaceRule) (exact : Search) (setting : SettingValue) (max budget : ℕ) (ending : Ending)
+pub certified_verified : (found later : Found) (words verify_words : List (List ℕ)) (circuit trap circuit_again trap_again schedule cert : List ℕ) (rule : PlaceRule) (exact : Search) (before now : Devices)
     → request_of words ≡ Some (compile circuit trap rule (Some exact)) → request_of verify_words ≡ Some (verify circuit_again trap_again schedule cert)
-    → Prepares found words (Ok (fewest setting max budget)) → (is : IsLeastWritten setting max budget ending)
-    → again.circuit ≡ found.circuit → again.trap ≡ found.trap → again.schedule ≡ Some ending.text → length ending.text ≤ 2 ^ 30
-    → again.certificate ≡ Some is.put → length is.put ≤ 2 ^ 50 → IsAccepted verified again verify_words setting ending.text
-certified_verified found again words verify_words circuit trap circuit_again trap_again schedule cert rule exact setting max budget ending request verify_request prepares is same_circuit same_trap there few cert_there cert_few =
+    → (wrote : Writes found words answers.Ok before now) → IsFoundAgain found later wrote.ending.text → length wrote.ending.text ≤ 2 ^ 30
+    → later.certificate ≡ wrote.ending.put → IfSome wrote.ending.put (λ bytes. length bytes ≤ 2 ^ 50) → IsAccepted verified later verify_words wrote.ending.text
+certified_verified found later words verify_words circuit trap circuit_again trap_again schedule cert rule exact before now request verify_request wrote there few cert_there cert_few =
     let next = λ (s : SettingValue). Is (within_search s exact) in
-    let work = fewest setting max budget in
-    let plan = placed_by found rule next work (asked_for found words (compile circuit trap rule (Some exact)) work request prepares) in
-    let place = setting_of plan.trap plan.circuit plan.placement in
-    let sought = sought_work place exact work plan.continues in
-    let same = same_fewest setting place max exact.max budget exact.budget sought.1 in
+    let work = wrote.done.work in
+    let plan = placed_by found rule next work (asked_for found words (compile circuit trap rule (Some exact)) work request wrote.done.is) in
+    let setting = setting_of plan.trap plan.circuit plan.placement in
+    let sought = sought_work setting exact work plan.continues in
+    let ends : EndsSearch setting exact.max exact.budget answers.Ok wrote.ending = subst (λ (w : Work). Ends w answers.Ok wrote.ending) sought.1 wrote.done.ends in
+    let is = least_written setting exact.max exact.budget wrote.ending ends in
     let steps = is.schedule in
-    let none = subst (λ (s : SettingValue). search_too_large s max ≡ None) (sym same.0) (subst (λ (n : ℕ). search_too_large place n ≡ None) (sym same.1) sought.0) in
-    let read = read_again found again rule next work plan setting steps ending.text same.0 is.least.plays is.text_is same_circuit same_trap there few in
+    let read = read_again found later rule next work plan setting steps wrote.ending.text refl is.least.plays is.text_is there.circuit there.trap there.schedule few in
     record {
+      setting = setting;
       steps = steps;
-      judges = comes_by again verify_words (verify circuit_again trap_again schedule cert) (verified setting steps) verify_request
-          (certified_again again setting steps ending.text is.put read (within_both setting max (length steps) none is.within) is.certifies cert_there cert_few);
+      judges = comes_by later verify_words (verify circuit_again trap_again schedule cert) (verified setting steps) verify_request
+          (certified_again later setting steps wrote.ending.text is.put read (within_both setting exact.max (length steps) sought.0 is.within) is.certifies (cert_there ∙ is.put_is)
+          (subst (λ (put : Option (List ℕ)). IfSome put (λ bytes. length bytes ≤ 2 ^ 50)) is.put_is cert_few));
       text_is = is.text_is;
     }

@@ -37,11 +37,12 @@ use Rattle.request_words.specs.Request.{Asked, compile, check, report, request_o
 use Rattle.run_answers.specs.declared.answer.Answer.{Answer}
 use Rattle.run_answers.specs.declared.answer.Answer.TheVariants as answers
 use Rattle.run_stages.specs.declared.inputs.Inputs.{Inputs}
-use Rattle.run_stages.specs.Work.{Work, make, judged, reported, IsTightTextOf}
+use Rattle.run_stages.specs.Work.{Work, judged, reported, Ends, IsTightTextOf}
 use Rattle.run_stages.specs.Stages.{Is, Then}
 use Rattle.run_stages.specs.Found.{Found}
 use Rattle.run_stages.specs.Prepare.{bytes_of, or_refuse, CircuitOf, TrapOf, inputs_of, InputsOf, Routed, JudgedIn, JudgedOf, JudgedFor, Comes, Prepares}
-use Rattle.qccd.specs.RoundTrip.{IsAccepted}
+use Rattle.qccd.specs.Run.{Devices, Writes}
+use Rattle.qccd.specs.RoundTrip.{IsFoundAgain, IsAccepted}
 use Rattle.run_stages.proofs.Refusals.{labels_fit}
 use Rattle.qccd.proofs.Known.{spelled}
 use Rattle.run_stages.proofs.Stages.{then_ok}
@@ -142,39 +143,36 @@ judged_for work found setting steps text again =
 abbrev IsCaseOf : WorkOf → Asked → Type 0
 IsCaseOf work asked = (found : Found) (outcome : Result Work Answer) → JudgedFor work found outcome → Comes found asked outcome
 
-same_setting : (a b : SettingValue) → make a ≡ make b → a ≡ b
-same_setting a b e = cc
-
--- the text stands as the schedule after the compilation, and circuit and trap as before
-judged_again : (work : WorkOf) (asked : Asked) (before later : Found) (words check_words : List (List ℕ)) (circuit trap text : List ℕ) (rule : PlaceRule) (setting : SettingValue) → IsCaseOf work asked
+-- the text of a compilation stands as the schedule, and circuit and trap as before
+judged_again : (work : WorkOf) (asked : Asked) (found later : Found) (words check_words : List (List ℕ)) (circuit trap : List ℕ) (rule : PlaceRule) (before now : Devices) → IsCaseOf work asked
     → request_of words ≡ Some (compile circuit trap rule None) → request_of check_words ≡ Some asked
-    → Prepares before words (Ok (make setting)) → IsTightTextOf setting text
-    → later.circuit ≡ before.circuit → later.trap ≡ before.trap → later.schedule ≡ Some text → length text ≤ 2 ^ 30
-    → IsAccepted work later check_words setting text
-judged_again work asked before later words check_words circuit trap text rule setting comes request check_request prepares written same_circuit same_trap there few =
-    let plan = placed_by before rule Routed (make setting) (asked_for before words (compile circuit trap rule None) (make setting) request prepares) in
-    let setting_is : setting ≡ setting_of plan.trap plan.circuit plan.placement =
-    same_setting setting (setting_of plan.trap plan.circuit plan.placement) (routed_work (setting_of plan.trap plan.circuit plan.placement) (make setting) plan.continues) in
+    → (wrote : Writes found words answers.Ok before now) → IsFoundAgain found later wrote.ending.text → length wrote.ending.text ≤ 2 ^ 30
+    → IsAccepted work later check_words wrote.ending.text
+judged_again work asked found later words check_words circuit trap rule before now comes request check_request wrote there few =
+    let done = wrote.done.work in
+    let plan = placed_by found rule Routed done (asked_for found words (compile circuit trap rule None) done request wrote.done.is) in
+    let setting = setting_of plan.trap plan.circuit plan.placement in
+    let written : IsTightTextOf setting wrote.ending.text =
+    (subst (λ (w : Work). Ends w answers.Ok wrote.ending) (routed_work setting done plan.continues) wrote.done.ends).1.schedule in
     let steps = written.is.schedule in
-    let again = read_again before later rule Routed (make setting) plan setting steps text setting_is written.is.plays written.is.text_is same_circuit same_trap there few in
+    let again = read_again found later rule Routed done plan setting steps wrote.ending.text refl written.is.plays written.is.text_is there.circuit there.trap there.schedule few in
     record {
+      setting = setting;
       steps = steps;
-      judges = comes_by later check_words asked (work setting steps) check_request (comes later (Ok (work setting steps)) (judged_for work later setting steps text again));
+      judges = comes_by later check_words asked (work setting steps) check_request (comes later (Ok (work setting steps)) (judged_for work later setting steps wrote.ending.text again));
       text_is = written.is.text_is;
     }
 
-pub judged_legal : (before later : Found) (words check_words : List (List ℕ)) (circuit trap circuit_again trap_again schedule text : List ℕ) (rule : PlaceRule) (setting : SettingValue)
+pub judged_legal : (found later : Found) (words check_words : List (List ℕ)) (circuit trap circuit_again trap_again schedule : List ℕ) (rule : PlaceRule) (before now : Devices)
     → request_of words ≡ Some (compile circuit trap rule None) → request_of check_words ≡ Some (check circuit_again trap_again schedule)
-    → Prepares before words (Ok (make setting)) → IsTightTextOf setting text
-    → later.circuit ≡ before.circuit → later.trap ≡ before.trap → later.schedule ≡ Some text → length text ≤ 2 ^ 30
-    → IsAccepted judged later check_words setting text
-judged_legal before later words check_words circuit trap circuit_again trap_again schedule text rule setting =
-    judged_again judged (check circuit_again trap_again schedule) before later words check_words circuit trap text rule setting (λ found outcome is. is)
+    → (wrote : Writes found words answers.Ok before now) → IsFoundAgain found later wrote.ending.text → length wrote.ending.text ≤ 2 ^ 30
+    → IsAccepted judged later check_words wrote.ending.text
+judged_legal found later words check_words circuit trap circuit_again trap_again schedule rule before now =
+    judged_again judged (check circuit_again trap_again schedule) found later words check_words circuit trap rule before now (λ found outcome is. is)
 
-pub judged_reported : (before later : Found) (words report_words : List (List ℕ)) (circuit trap circuit_again trap_again schedule text : List ℕ) (rule : PlaceRule) (setting : SettingValue)
+pub judged_reported : (found later : Found) (words report_words : List (List ℕ)) (circuit trap circuit_again trap_again schedule : List ℕ) (rule : PlaceRule) (before now : Devices)
     → request_of words ≡ Some (compile circuit trap rule None) → request_of report_words ≡ Some (report circuit_again trap_again schedule)
-    → Prepares before words (Ok (make setting)) → IsTightTextOf setting text
-    → later.circuit ≡ before.circuit → later.trap ≡ before.trap → later.schedule ≡ Some text → length text ≤ 2 ^ 30
-    → IsAccepted reported later report_words setting text
-judged_reported before later words report_words circuit trap circuit_again trap_again schedule text rule setting =
-    judged_again reported (report circuit_again trap_again schedule) before later words report_words circuit trap text rule setting (λ found outcome is. is)
+    → (wrote : Writes found words answers.Ok before now) → IsFoundAgain found later wrote.ending.text → length wrote.ending.text ≤ 2 ^ 30
+    → IsAccepted reported later report_words wrote.ending.text
+judged_reported found later words report_words circuit trap circuit_again trap_again schedule rule before now =
+    judged_again reported (report circuit_again trap_again schedule) found later words report_words circuit trap rule before now (λ found outcome is. is)

@@ -1,20 +1,18 @@
 //! Laws of the definitions that `run` is proved by.
 
-ghost use Rattle.std.specs.Prelude.{◌≡◌, ℕ, ◌≤◌, ◌^◌, List, length, Option, Some, None, Result, Ok};
+ghost use Rattle.std.specs.Prelude.{◌≡◌, ℕ, ◌≤◌, ◌^◌, List, length, Option, Some, None, Result, Ok, IfSome};
 ghost use Rattle.placement.specs.declared.rule.PlaceRule.{PlaceRule};
 ghost use Rattle.step_rules.specs.declared.action.Action.{Action};
 ghost use Rattle.step_rules.specs.Setting.{SettingValue};
 ghost use Rattle.step_rules.specs.Play.{IsLeast};
 ghost use Rattle.request_words.specs.Request.{Search, request_of, compile, check, verify, report};
 ghost use Rattle.run_answers.specs.declared.answer.Answer.{Answer};
-ghost use Rattle.run_stages.specs.declared.ending.Ending.{Ending};
-ghost use Rattle.run_stages.specs.Exact.{IsLeastWritten};
-ghost use Rattle.run_stages.specs.Work.{Work, make, fewest, judged, reported, verified, IsTightTextOf};
+ghost use Rattle.run_stages.specs.Work.{Work, judged, reported, verified};
 ghost use Rattle.run_stages.specs.Found.{Found};
 ghost use Rattle.run_stages.specs.Prepare.{Prepares};
-ghost use Rattle.qccd.specs.Run.{Devices, Runs};
+ghost use Rattle.qccd.specs.Run.{Devices, Runs, Writes};
 ghost use Rattle.qccd.specs.Headline.{Compiled};
-ghost use Rattle.qccd.specs.RoundTrip.{IsAccepted};
+ghost use Rattle.qccd.specs.RoundTrip.{IsFoundAgain, IsAccepted};
 
 use verify_core::{accepted_schedules_are_least, one_verification};
 
@@ -45,38 +43,33 @@ pub fn one_outcome()
     one_verification();
 }
 
-/// A check of the text that a compilation wrote says that it is legal, and a report reports it, where the same circuit
-/// and trap are found, and the text as the schedule.
+/// A check of the text that a compilation wrote says that it is legal, and a report reports it, where the same
+/// circuit and trap are found, and the text as the schedule.
 pub fn a_compiled_schedule_is_legal()
-    ensures checked { (found checked : Found) (words check_words : List (List ℕ))
-        (circuit trap circuit_again trap_again schedule text : List ℕ) (rule : PlaceRule) (setting : SettingValue)
+    ensures checked { (found later : Found) (words check_words : List (List ℕ))
+        (circuit trap circuit_again trap_again schedule : List ℕ) (rule : PlaceRule) (before now : Devices)
         → request_of words ≡ Some (compile circuit trap rule None)
         → request_of check_words ≡ Some (check circuit_again trap_again schedule)
-        → Prepares found words (Ok (make setting)) → IsTightTextOf setting text
-        → checked.circuit ≡ found.circuit → checked.trap ≡ found.trap
-        → checked.schedule ≡ Some text → length text ≤ 2 ^ 30
-        → IsAccepted judged checked check_words setting text }
-    ensures reported { (found checked : Found) (words report_words : List (List ℕ))
-        (circuit trap circuit_again trap_again schedule text : List ℕ) (rule : PlaceRule) (setting : SettingValue)
+        → (wrote : Writes found words Answer.Ok before now) → IsFoundAgain found later wrote.ending.text
+        → length wrote.ending.text ≤ 2 ^ 30 → IsAccepted judged later check_words wrote.ending.text }
+    ensures reported { (found later : Found) (words report_words : List (List ℕ))
+        (circuit trap circuit_again trap_again schedule : List ℕ) (rule : PlaceRule) (before now : Devices)
         → request_of words ≡ Some (compile circuit trap rule None)
         → request_of report_words ≡ Some (report circuit_again trap_again schedule)
-        → Prepares found words (Ok (make setting)) → IsTightTextOf setting text
-        → checked.circuit ≡ found.circuit → checked.trap ≡ found.trap
-        → checked.schedule ≡ Some text → length text ≤ 2 ^ 30
-        → IsAccepted reported checked report_words setting text }
+        → (wrote : Writes found words Answer.Ok before now) → IsFoundAgain found later wrote.ending.text
+        → length wrote.ending.text ≤ 2 ^ 30 → IsAccepted reported later report_words wrote.ending.text }
 {}
 
-/// A verification accepts what a compilation in exact mode wrote and put, where the same circuit and trap are found, the
-/// text as the schedule, and what was put as the certificate.
+/// A verification accepts what a compilation in exact mode wrote and put, where the same circuit and trap are found,
+/// the text as the schedule, and what was put as the certificate.
 pub fn a_certified_schedule_is_verified()
-    ensures { (found again : Found) (words verify_words : List (List ℕ))
-        (circuit trap circuit_again trap_again schedule cert : List ℕ)
-        (rule : PlaceRule) (exact : Search) (setting : SettingValue) (max budget : ℕ) (ending : Ending)
+    ensures { (found later : Found) (words verify_words : List (List ℕ))
+        (circuit trap circuit_again trap_again schedule cert : List ℕ) (rule : PlaceRule) (exact : Search)
+        (before now : Devices)
         → request_of words ≡ Some (compile circuit trap rule (Some exact))
         → request_of verify_words ≡ Some (verify circuit_again trap_again schedule cert)
-        → Prepares found words (Ok (fewest setting max budget)) → (is : IsLeastWritten setting max budget ending)
-        → again.circuit ≡ found.circuit → again.trap ≡ found.trap
-        → again.schedule ≡ Some ending.text → length ending.text ≤ 2 ^ 30
-        → again.certificate ≡ Some is.put → length is.put ≤ 2 ^ 50
-        → IsAccepted verified again verify_words setting ending.text }
+        → (wrote : Writes found words Answer.Ok before now) → IsFoundAgain found later wrote.ending.text
+        → length wrote.ending.text ≤ 2 ^ 30
+        → later.certificate ≡ wrote.ending.put → IfSome wrote.ending.put (λ bytes. length bytes ≤ 2 ^ 50)
+        → IsAccepted verified later verify_words wrote.ending.text }
 {}
