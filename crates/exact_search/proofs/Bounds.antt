@@ -11,6 +11,7 @@ use Rattle.cdcl.specs.Clauses.{clauses_in}
 use Rattle.sat_base.specs.Literal.{Literal}
 use Rattle.sat_base.specs.Clauses.{NameOnly}
 use Rattle.sat_base.specs.Derivation.{AreGood, Refutes, AnyRefutes, clauses_of as clauses_of_lines}
+use Rattle.sat_base.specs.Certificate.{HaveForm}
 use Rattle.sat_base.specs.Fresh.{AreFresh}
 use Rattle.derivation_log.specs.declared.line_id.LineId.{LineId}
 use Rattle.derivation_log.specs.Log.{Derived, Lines, log_of, clauses_of, clause_of, AreSound, IsSound}
