@@ -17,3 +17,8 @@ pub mod Follows
 pub mod Bodies
 pub mod Accepted
 pub mod TwoNames
+pub mod WeightSums
+pub mod TextSizes
+pub mod StepActions
+pub mod PerformedNodes
+pub mod ShortTexts

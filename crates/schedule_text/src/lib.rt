@@ -13,7 +13,7 @@ mod tests;
 mod text_fault;
 mod words;
 
-pub use laws::one_text;
+pub use laws::{one_text, small_schedules_have_short_texts};
 pub use printer::print;
 pub use reader::read;
 pub use text_fault::TextFault;
