@@ -11,10 +11,13 @@ use Rattle.trap_model.specs.Trap.{TrapValue, place_count}
 use Rattle.trap_model.specs.Build.{IsTrap}
 use Rattle.step_rules.specs.declared.action.Action.{Action}
 use Rattle.step_rules.specs.Setting.{SettingValue, setting_of}
-use Rattle.step_rules.specs.Play.{IsLeast}
+use Rattle.step_rules.specs.Placement.{IsPlacement}
+use Rattle.step_rules.specs.Play.{Plays, IsLeast}
+use Rattle.schedule_text.specs.Text.{schedule_text}
 use Rattle.step_vars.specs.Lists.{ion_count}
 use Rattle.step_vars.specs.Certifies.{Certifies}
 use Rattle.placement.specs.declared.rule.PlaceRule.{PlaceRule}
+use Rattle.placement.proofs.Placed.{placed as rule_gives_placement}
 use Rattle.derivation_check.specs.declared.cert_fault.CertFault.{CertFault}
 use Rattle.exact_search.specs.declared.fault.Count.TheVariants as search_counts
 use Rattle.exact_search.specs.declared.fault.Count.{Count as SearchCount}
@@ -41,7 +44,7 @@ use Rattle.run_stages.specs.Prepare.{bytes_of, or_refuse, check_refusal, verify_
 use Rattle.run_stages.proofs.Stages.{then_ok}
 use Rattle.qccd.specs.Run.{Devices, Writes}
 use Rattle.qccd.specs.RoundTrip.{IsFoundAgain, IsAccepted}
-use Rattle.qccd.proofs.Went.{went, asked_for, placed_by, routed_work, sought_work}
+use Rattle.qccd.proofs.Went.{PlacedBy, went, asked_for, placed_by, routed_work, sought_work}
 use Rattle.qccd.proofs.Compiled.{least_written}
 use Rattle.qccd.proofs.RoundTrip.{IsReadAgain, circuit_right, trap_right, read_again, comes_by}
 
@@ -192,9 +195,15 @@ kept what limit count next e = let parts = limit_by (ltb limit count) (exacts.To
 passed : (what : Count) (limit count : ℕ) (next : Option VerifyFault) → count ≤ limit → next ≡ None → above what limit count next ≡ None
 passed what limit count next few rest = ap (λ (b : Bool). cond b (Some (TooLarge what count)) next) (le-ltb limit count few) ∙ rest
 
--- what is within the limits of a search, with at most as many steps, is within those of a verification
-pub within_both : (setting : SettingValue) (max steps : ℕ) → search_too_large setting max ≡ None → steps ≤ max → verify_too_large setting steps ≡ None
-within_both setting max steps none few =
+-- what is within the limits of a search
+record IsWithinSearch (setting : SettingValue) (max : ℕ) : Type 0 where
+  ions : ion_count setting ≤ 16
+  places : place_count setting.trap ≤ 48
+  ops : length setting.circuit.ops ≤ 200
+  most : max ≤ 48
+
+within_limits : (setting : SettingValue) (max : ℕ) → search_too_large setting max ≡ None → IsWithinSearch setting max
+within_limits setting max none =
     let last = above_search search_counts.Max 48 max None in
     let third = above_search search_counts.Ops 200 (length setting.circuit.ops) last in
     let second = above_search search_counts.Places 48 (place_count setting.trap) third in
@@ -202,13 +211,19 @@ within_both setting max steps none few =
     let places = kept search_counts.Places 48 (place_count setting.trap) third ions.1 in
     let ops = kept search_counts.Ops 200 (length setting.circuit.ops) last places.1 in
     let most = kept search_counts.Max 48 max None ops.1 in
+    record { ions = ions.0; places = places.0; ops = ops.0; most = most.0 }
+
+-- with at most as many steps it is within those of a verification
+pub within_both : (setting : SettingValue) (max steps : ℕ) → search_too_large setting max ≡ None → steps ≤ max → verify_too_large setting steps ≡ None
+within_both setting max steps none few =
+    let within = within_limits setting max none in
     let then_steps = above verify_counts.Steps 48 steps None in
     let then_ops = above verify_counts.Ops 200 (length setting.circuit.ops) then_steps in
     let then_places = above verify_counts.Places 48 (place_count setting.trap) then_ops in
-    passed verify_counts.Ions 16 (ion_count setting) then_places ions.0
-    (passed verify_counts.Places 48 (place_count setting.trap) then_ops places.0
-    (passed verify_counts.Ops 200 (length setting.circuit.ops) then_steps ops.0
-    (passed verify_counts.Steps 48 steps None (le_trans few most.0) refl)))
+    passed verify_counts.Ions 16 (ion_count setting) then_places within.ions
+    (passed verify_counts.Places 48 (place_count setting.trap) then_ops within.places
+    (passed verify_counts.Ops 200 (length setting.circuit.ops) then_steps within.ops
+    (passed verify_counts.Steps 48 steps None (le_trans few within.most) refl)))
 
 -- ---- what was written and put is verified
 
@@ -234,11 +249,26 @@ certified_again found setting steps text cert again small certifies there few =
     (then_ok (Is (ok_or found.certificate (answers.ReadFault files.Certificate))) (CertifiedIn inputs checked) cert (Ok work) read
     (record { judgement = Ok tt; is = record { certifies = holds; within = few }; outcome_is = refl }))))))
 
-pub certified_verified : (found later : Found) (words verify_words : List (List ℕ)) (circuit trap circuit_again trap_again schedule cert : List ℕ) (rule : PlaceRule) (exact : Search) (before now : Devices)
+abbrev pub HaveShortTexts : Type 0
+HaveShortTexts = (trap : TrapValue) (circuit : CircuitValue) (placement : List (List Qubit)) (steps : List (List Action)) → IsTrap trap → IsCircuit circuit → IsPlacement trap circuit placement
+    → Plays (setting_of trap circuit placement) steps → place_count trap ≤ 48 → length circuit.ops ≤ 200 → length steps ≤ 48 → length (schedule_text (setting_of trap circuit placement) steps) ≤ 2 ^ 30
+
+-- the text of a schedule within the limits of a search is a file within the limit
+text_fits : HaveShortTexts → (found : Found) (rule : PlaceRule) (next : SettingValue → Result Work Answer → Type 0) (work : Work) (plan : PlacedBy found rule next work) (max : ℕ) (steps : List (List Action))
+    → search_too_large (setting_of plan.trap plan.circuit plan.placement) max ≡ None → Plays (setting_of plan.trap plan.circuit plan.placement) steps → length steps ≤ max
+    → length (schedule_text (setting_of plan.trap plan.circuit plan.placement) steps) ≤ 2 ^ 30
+text_fits short found rule next work plan max steps none plays few =
+    let right = trap_right found.trap (plan.trap, plan.labels) plan.trap_is in
+    let well = circuit_right found.circuit plan.circuit plan.circuit_is in
+    let placed = rule_gives_placement plan.trap plan.circuit rule plan.labels plan.placement well right.1 plan.placement_is in
+    let within = within_limits (setting_of plan.trap plan.circuit plan.placement) max none in
+    short plan.trap plan.circuit plan.placement steps right.0 well placed plays within.places within.ops (le_trans few within.most)
+
+pub certified_verified : HaveShortTexts → (found later : Found) (words verify_words : List (List ℕ)) (circuit trap circuit_again trap_again schedule cert : List ℕ) (rule : PlaceRule) (exact : Search) (before now : Devices)
     → request_of words ≡ Some (compile circuit trap rule (Some exact)) → request_of verify_words ≡ Some (verify circuit_again trap_again schedule cert)
-    → (wrote : Writes found words answers.Ok before now) → IsFoundAgain found later wrote.ending.text → length wrote.ending.text ≤ 2 ^ 30
+    → (wrote : Writes found words answers.Ok before now) → IsFoundAgain found later wrote.ending.text
     → later.certificate ≡ wrote.ending.put → IfSome wrote.ending.put (λ bytes. length bytes ≤ 2 ^ 50) → IsAccepted verified later verify_words wrote.ending.text
-certified_verified found later words verify_words circuit trap circuit_again trap_again schedule cert rule exact before now request verify_request wrote there few cert_there cert_few =
+certified_verified short found later words verify_words circuit trap circuit_again trap_again schedule cert rule exact before now request verify_request wrote there cert_there cert_few =
     let next = λ (s : SettingValue). Is (within_search s exact) in
     let work = wrote.done.work in
     let plan = placed_by found rule next work (asked_for found words (compile circuit trap rule (Some exact)) work request wrote.done.is) in
@@ -247,6 +277,7 @@ certified_verified found later words verify_words circuit trap circuit_again tra
     let ends : EndsSearch setting exact.max exact.budget answers.Ok wrote.ending = subst (λ (w : Work). Ends w answers.Ok wrote.ending) sought.1 wrote.done.ends in
     let is = least_written setting exact.max exact.budget wrote.ending ends in
     let steps = is.schedule in
+    let few = subst (λ (text : List ℕ). length text ≤ 2 ^ 30) (sym is.text_is) (text_fits short found rule next work plan exact.max steps sought.0 is.least.plays is.within) in
     let read = read_again found later rule next work plan setting steps wrote.ending.text refl is.least.plays is.text_is there.circuit there.trap there.schedule few in
     record {
       setting = setting;

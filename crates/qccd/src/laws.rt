@@ -14,6 +14,7 @@ ghost use Rattle.qccd.specs.Run.{Devices, Runs, Writes};
 ghost use Rattle.qccd.specs.Headline.{Compiled};
 ghost use Rattle.qccd.specs.RoundTrip.{IsFoundAgain, IsAccepted};
 
+use schedule_text::small_schedules_have_short_texts;
 use verify_core::{accepted_schedules_are_least, one_verification};
 
 /// The headline: a compilation that answers Ok wrote the text of the placement of the rule and of a schedule that
@@ -69,7 +70,8 @@ pub fn a_certified_schedule_is_verified()
         → request_of words ≡ Some (compile circuit trap rule (Some exact))
         → request_of verify_words ≡ Some (verify circuit_again trap_again schedule cert)
         → (wrote : Writes found words Answer.Ok before now) → IsFoundAgain found later wrote.ending.text
-        → length wrote.ending.text ≤ 2 ^ 30
         → later.certificate ≡ wrote.ending.put → IfSome wrote.ending.put (λ bytes. length bytes ≤ 2 ^ 50)
         → IsAccepted verified later verify_words wrote.ending.text }
-{}
+{
+    small_schedules_have_short_texts();
+}

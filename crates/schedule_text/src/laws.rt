@@ -25,10 +25,11 @@ pub fn one_text(trap: &Trap, circuit: &Circuit)
     let _ops = circuit.ops();
 }
 
-/// The text of a schedule that plays, of at most 48 steps and 200 operations on a trap of at most 48 places, has at
-/// most 2^30 bytes.
+/// The text of a schedule that plays, of at most 48 steps and 200 operations on a trap of at most 48 places, has
+/// at most 2^30 bytes.
 pub fn small_schedules_have_short_texts()
-    ensures { (trap : TrapValue) (circuit : CircuitValue) (placement : List (List Qubit)) (steps : List (List Action))
+    ensures { (trap : TrapValue) (circuit : CircuitValue)
+        (placement : List (List Qubit)) (steps : List (List Action))
         → IsTrap trap → IsCircuit circuit → IsPlacement trap circuit placement
         → Plays (setting_of trap circuit placement) steps
         → place_count trap ≤ 48 → length circuit.ops ≤ 200 → length steps ≤ 48

@@ -1,5 +1,5 @@
 -- How the text of a schedule and a certificate are judged together.
-use Rattle.std.specs.Prelude.{◌≡◌, ◌≢◌, ℕ, zero, suc, ◌-◌, ◌≤◌, ◌⊎◌, nat_lt, if◌then◌else◌, List, ◌++◌, length, Option, None, Some, Result, Ok, Err, tt}
+use Rattle.std.specs.Prelude.{◌≡◌, ◌≢◌, ℕ, zero, suc, ◌-◌, ◌≤◌, ◌⊎◌, nat_lt, if◌then◌else◌, List, ◌++◌, length, Option, None, Some, Result, Ok, Err}
 use Rattle.qc_base.specs.Shelf.{ShelfFacts, IsContent, SameCounts}
 use Rattle.sat_base.specs.declared.certificate.Bound.{Bound}
 use Rattle.sat_base.specs.Certificate.{head_text}
