@@ -7,7 +7,7 @@ use Rattle.step_vars.specs.declared.encoding.Encoding.{Encoding}
 use Rattle.step_vars.specs.Items.{so, goal_item}
 use Rattle.step_vars.specs.Numbering.{before, number_of, literal_of}
 use Rattle.step_vars.specs.Encoding.{VarsValue, vars_of, numbering_of, goal_literal}
-use Rattle.step_clauses.proofs.Numbered.{has_goal}
+use Rattle.clause_families.proofs.Numbered.{has_goal}
 use Rattle.encoding_dimacs.specs.declared.inputs.Inputs.{Inputs}
 use Rattle.encoding_dimacs.specs.Dimacs.{dimacs_text, question_of, question_text, setting_in, AreReady, AreVarsOf}
 

@@ -21,11 +21,11 @@ use Rattle.std.proofs.lemmas.List.FromFn.{length-map-range_with_len}
 use Rattle.std.proofs.Math.ListN.{length-map}
 use Rattle.std.proofs.Math.Nat.{mul-le-mul_left, mul-le-mul_right}
 use Rattle.trap_model.proofs.Count.{few_channels}
-use Rattle.step_clauses.specs.Encoded.{Differ, IsEncoded, IsEncodedBound}
+use Rattle.clause_families.specs.Encoded.{Differ, IsEncoded, IsEncodedBound}
 use Rattle.step_clauses.specs.Loops.{IsPair, IsAct, HasZones, Loops}
-use Rattle.step_clauses.proofs.Every.{all_append, all_weaker, all_both, all_map, all_filter, all_always, all_range, differ_map, differ_range, differ_filter, differ_append, differ_flat_map}
-use Rattle.step_clauses.proofs.Numbered.{first_number, second_number, has_at, has_use, has_swap, has_act}
-use Rattle.step_clauses.proofs.Literals.{number_is}
+use Rattle.clause_families.proofs.Every.{all_append, all_weaker, all_both, all_map, all_filter, all_always, all_range, differ_map, differ_range, differ_filter, differ_append, differ_flat_map}
+use Rattle.clause_families.proofs.Numbered.{first_number, second_number, has_at, has_use, has_swap, has_act}
+use Rattle.clause_families.proofs.Literals.{number_is}
 use Rattle.step_clauses.proofs.Within.{of_passing, at_number}
 use Rattle.step_vars.proofs.Limited.{limit_some, places_counted, ions_counted, zone_counted, slot_counted, crossing_counted}
 use Rattle.step_vars.specs.declared.item.Item.TheVariants.{At, Ord, Use, Leave, Swap, Act, Done, Goal}

@@ -13,16 +13,16 @@ use Rattle.step_vars.specs.Items.{at_item, ord_item, use_item, leave_item, so, n
 use Rattle.step_vars.specs.Numbering.{Numbering, rank}
 use Rattle.step_vars.specs.Encoding.{VarsValue}
 use Rattle.step_vars.specs.Families.{both_leave, keeps_order, turns_order}
-use Rattle.step_clauses.specs.declared.by_channel.IonRule.{IonRule}
-use Rattle.step_clauses.specs.declared.by_channel.IonRule.TheVariants.{FromSource, ToTarget, UsesChannel, FindsEmptySlot, EmptiesSlot}
-use Rattle.step_clauses.specs.declared.by_channel.TwoIonRule.{TwoIonRule}
-use Rattle.step_clauses.specs.declared.by_channel.TwoIonRule.TheVariants.{GoesAlong, MergesOutside}
-use Rattle.step_clauses.specs.Clauses.{by_ion, by_two_ions, by_passing_pair, passers}
-use Rattle.step_clauses.specs.Encoded.{Differ, IsEncoded, IsEncodedClause, AreEncodedClauses, item_of}
+use Rattle.clause_families.specs.declared.by_channel.IonRule.{IonRule}
+use Rattle.clause_families.specs.declared.by_channel.IonRule.TheVariants.{FromSource, ToTarget, UsesChannel, FindsEmptySlot, EmptiesSlot}
+use Rattle.clause_families.specs.declared.by_channel.TwoIonRule.{TwoIonRule}
+use Rattle.clause_families.specs.declared.by_channel.TwoIonRule.TheVariants.{GoesAlong, MergesOutside}
+use Rattle.clause_families.specs.Clauses.{by_ion, by_two_ions, by_passing_pair, passers}
+use Rattle.clause_families.specs.Encoded.{Differ, IsEncoded, IsEncodedClause, AreEncodedClauses, item_of}
 use Rattle.step_clauses.specs.Emission.{IsStep}
 use Rattle.step_clauses.specs.Loops.{HasEnds, IsPair}
-use Rattle.step_clauses.proofs.Every.{all_map, all_flat_map, all_filter, differ_map}
-use Rattle.step_clauses.proofs.Numbered.{first_number, has_at, has_ord, has_use, has_leave, nearer_item, two_claims, three_claims, four_claims}
+use Rattle.clause_families.proofs.Every.{all_map, all_flat_map, all_filter, differ_map}
+use Rattle.clause_families.proofs.Numbered.{first_number, has_at, has_ord, has_use, has_leave, nearer_item, two_claims, three_claims, four_claims}
 
 pub from_0 : (v : VarsValue) (r t : ℕ) → IsStep v r t → 0 < t
 from_0 v r t s = omega (arith, s.next)

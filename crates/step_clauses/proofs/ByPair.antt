@@ -9,14 +9,14 @@ use Rattle.step_vars.specs.Items.{at_item, ord_item, swap_item, so, not_so, deni
 use Rattle.step_vars.specs.Numbering.{rank}
 use Rattle.step_vars.specs.Encoding.{VarsValue}
 use Rattle.step_vars.specs.Families.{swap_in_zone, none_between, swap_turns}
-use Rattle.step_clauses.specs.declared.by_pair.PairRule.{PairRule}
-use Rattle.step_clauses.specs.declared.by_pair.PairRule.TheVariants.{InZone, NoneBetween, Turns, Stays}
-use Rattle.step_clauses.specs.Clauses.{by_pair}
-use Rattle.step_clauses.specs.Encoded.{Differ, IsEncoded, IsEncodedClause, AreEncodedClauses}
+use Rattle.clause_families.specs.declared.by_pair.PairRule.{PairRule}
+use Rattle.clause_families.specs.declared.by_pair.PairRule.TheVariants.{InZone, NoneBetween, Turns, Stays}
+use Rattle.clause_families.specs.Clauses.{by_pair}
+use Rattle.clause_families.specs.Encoded.{Differ, IsEncoded, IsEncodedClause, AreEncodedClauses}
 use Rattle.step_clauses.specs.Emission.{IsStep}
 use Rattle.step_clauses.specs.Loops.{IsPair, IsZone}
-use Rattle.step_clauses.proofs.Every.{all_flat_map, all_filter, all_weaker}
-use Rattle.step_clauses.proofs.Numbered.{first_number, second_number, has_at, has_ord, has_swap, nearer_item, two_claims, three_claims, four_claims}
+use Rattle.clause_families.proofs.Every.{all_flat_map, all_filter, all_weaker}
+use Rattle.clause_families.proofs.Numbered.{first_number, second_number, has_at, has_ord, has_swap, nearer_item, two_claims, three_claims, four_claims}
 use Rattle.step_clauses.proofs.ByChannel.{from_0, before_last, steps_apart, pairs_apart, first_below, other_of, order_not}
 
 -- ---- swaps

@@ -9,14 +9,14 @@ use Rattle.step_vars.specs.Numbering.{rank}
 use Rattle.step_vars.specs.Lists.{able_zones, is_ion_of}
 use Rattle.step_vars.specs.Encoding.{VarsValue}
 use Rattle.step_vars.specs.Families.{act_does}
-use Rattle.step_clauses.specs.declared.by_place.PlaceChannels.{PlaceChannels}
-use Rattle.step_clauses.specs.Clauses.{was_or_passes}
+use Rattle.clause_families.specs.declared.by_place.PlaceChannels.{PlaceChannels}
+use Rattle.clause_families.specs.Clauses.{was_or_passes}
 use Rattle.step_clauses.specs.Operations.{ion_in_zone, op_in_zones, was_or_acts, stays_done, in_order, goal_needs}
-use Rattle.step_clauses.specs.Encoded.{Differ, IsEncoded, IsEncodedClause, AreEncodedClauses}
+use Rattle.clause_families.specs.Encoded.{Differ, IsEncoded, IsEncodedClause, AreEncodedClauses}
 use Rattle.step_clauses.specs.Emission.{IsStep}
 use Rattle.step_clauses.specs.Loops.{IsOp, IsAct, HasZones, HasChannels}
-use Rattle.step_clauses.proofs.Every.{all_map, all_flat_map, all_filter_kept, differ_map}
-use Rattle.step_clauses.proofs.Numbered.{second_number, has_at, has_leave, has_act, has_done, has_goal, two_claims}
+use Rattle.clause_families.proofs.Every.{all_map, all_flat_map, all_filter_kept, differ_map}
+use Rattle.clause_families.proofs.Numbered.{second_number, has_at, has_leave, has_act, has_done, has_goal, two_claims}
 use Rattle.step_clauses.proofs.ByChannel.{from_0, before_last, steps_apart, map_items}
 
 -- ---- places

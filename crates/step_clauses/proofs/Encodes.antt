@@ -10,14 +10,14 @@ use Rattle.step_vars.specs.Numbering.{Numbering}
 use Rattle.step_vars.specs.Lists.{ion_count, ions_of, places_of, zones_of, performed, acts_of, orders_of, numbered_channels, begins_at, ends_at, into_slot, from_slot, is_split_channel, is_merge_channel, channels_where, numbers_where}
 use Rattle.step_vars.specs.Families.{pairs_in, start_place, start_order, all_stay_or_leave, all_stayed_or_came, stays_or_leaves, stayed_or_came}
 use Rattle.step_vars.specs.Encoding.{VarsValue, start_clauses, passing_clauses, order_clauses as orders_said, operation_clauses}
-use Rattle.step_clauses.specs.declared.by_channel.IonRule.TheVariants.{FromSource, ToTarget, UsesChannel, FindsEmptySlot, EmptiesSlot}
-use Rattle.step_clauses.specs.declared.by_channel.TwoIonRule.TheVariants.{GoesAlong, MergesOutside}
-use Rattle.step_clauses.specs.Clauses.{at_ends_from, at_ends_into, number_of}
-use Rattle.step_clauses.specs.Encoded.{Differ, IsEncodedClause, AreEncodedClauses}
+use Rattle.clause_families.specs.declared.by_channel.IonRule.TheVariants.{FromSource, ToTarget, UsesChannel, FindsEmptySlot, EmptiesSlot}
+use Rattle.clause_families.specs.declared.by_channel.TwoIonRule.TheVariants.{GoesAlong, MergesOutside}
+use Rattle.clause_families.specs.Clauses.{at_ends_from, at_ends_into, number_of}
+use Rattle.clause_families.specs.Encoded.{Differ, IsEncodedClause, AreEncodedClauses}
 use Rattle.step_clauses.specs.Emission.{IsStep}
 use Rattle.step_clauses.specs.Loops.{HasEnds, HasChannels, IsPair, IsOp, HasZones, Loops}
-use Rattle.step_clauses.proofs.Every.{all_append, all_weaker, all_map, all_flat_map, all_filter_kept, differ_range}
-use Rattle.step_clauses.proofs.Numbered.{has_at, has_ord, has_done, one_claim}
+use Rattle.clause_families.proofs.Every.{all_append, all_weaker, all_map, all_flat_map, all_filter_kept, differ_range}
+use Rattle.clause_families.proofs.Numbered.{has_at, has_ord, has_done, one_claim}
 use Rattle.step_clauses.proofs.ByChannel.{from_0, before_last, steps_apart, by_ion_clauses, by_two_clauses, passers_clauses, by_passing_clauses}
 use Rattle.step_clauses.proofs.ByPair.{stay_clauses, in_zone_clauses, turn_clauses, neighbour_clauses}
 use Rattle.step_clauses.proofs.ByPlace.{was_clause, in_zones_clauses, acts_clauses, done_clauses, order_clauses}

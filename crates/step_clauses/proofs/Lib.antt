@@ -1,10 +1,6 @@
-pub mod Ranges
-pub mod Every
-pub mod Numbered
 pub mod ByChannel
 pub mod ByPair
 pub mod ByPlace
-pub mod Literals
 pub mod Within
 pub mod Encodes
 pub mod Bounded

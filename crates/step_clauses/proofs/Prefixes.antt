@@ -1,17 +1,13 @@
 -- Prefixes of what is added, and the parts from their pieces.
-use Rattle.std.proofs.Common.{◌≡◌, ℕ, suc, ◌+◌, ◌<◌, List, [], ◌∷◌, ◌++◌, drop, get_or, length, refl, ap, sym, ◌∙◌, subst, arith, append_assoc}
-use Rattle.std.proofs.lemmas.List.{append-nil, drop_more}
-use Rattle.at_most.proofs.Emitted.{Emitted, emitted_same, emitted_within}
+use Rattle.std.proofs.Common.{◌≡◌, ℕ, suc, ◌+◌, List, [], ◌∷◌, ◌++◌, refl, ap, sym, ◌∙◌, subst, arith, append_assoc}
+use Rattle.std.proofs.lemmas.List.{append-nil}
 use Rattle.sat_base.specs.Literal.{Literal}
 use Rattle.at_most.specs.AtMost.{AddsPrefix}
 use Rattle.step_rules.specs.Setting.{SettingValue}
 use Rattle.step_vars.specs.declared.item.Claim.{Claim}
-use Rattle.step_vars.specs.declared.item.Bound.{Bound}
-use Rattle.step_vars.specs.declared.encoding.Encoding.{Encoding}
 use Rattle.step_vars.specs.Numbering.{Numbering}
-use Rattle.step_vars.specs.Limits.{limited, fresh_for}
 use Rattle.step_vars.specs.Families.{goal_needs_all}
-use Rattle.step_vars.specs.Encoding.{VarsValue, vars_of, numbering_of, clause_of, clauses_of, literals_of, bounds_of, start_clauses, step_part, layer_of, goal_of, activity_bounds, order_clauses, operation_clauses}
+use Rattle.step_vars.specs.Encoding.{VarsValue, vars_of, numbering_of, clause_of, clauses_of, bounds_of, start_clauses, step_part, layer_of, goal_of, activity_bounds, order_clauses, operation_clauses}
 use Rattle.step_clauses.specs.Emission.{first_half, second_first, second_half}
 
 pub prefix_first : (old new a b : List (List Literal)) → AddsPrefix old new a → AddsPrefix old new (a ++ b)
@@ -69,19 +65,3 @@ layer_later v s r t e next = let same : t ≡ suc r = omega (arith, next) in rw 
 pub goal_is : (v : VarsValue) (s : SettingValue) (t : ℕ) → v ≡ vars_of s v.encoding v.steps → clauses_of v.numbering (goal_needs_all s t) ≡ goal_of s v.encoding t
 unfolding goal_of
 goal_is v s t e = ap (λ n. clauses_of n (goal_needs_all s t)) (numbering_is v s e)
-
--- ---- lists with helpers
-
-pub bounds_step : (n : Numbering) (encoding : Encoding) (next : ℕ) (it : Bound) (rest : List Bound)
-    → bounds_of n encoding next (it ∷ rest) ≡ bounds_of n encoding next (it ∷ []) ++ bounds_of n encoding (next + fresh_for encoding (length it.items) it.limit) rest
-bounds_step n encoding next it rest =
-    ap (λ x. x ++ bounds_of n encoding (next + fresh_for encoding (length it.items) it.limit) rest) (sym (append-nil (limited encoding (literals_of n it.items) it.limit next)))
-
--- a prefix of the clauses of the next list is added too
-pub bound_within : (n : Numbering) (encoding : Encoding) (bounds : List Bound) (i next : ℕ) (it : Bound) (old now new all : List (List Literal)) → i < length bounds → it ≡ get_or bounds i it
-    → Emitted old now all (bounds_of n encoding next (drop i bounds)) → AddsPrefix now new (bounds_of n encoding next (it ∷ [])) → AddsPrefix old new all
-bound_within n encoding bounds i next it old now new all within found emitted h =
-    let split : drop i bounds ≡ it ∷ drop (i + 1) bounds = drop_more bounds i it within ∙ ap (λ x. x ∷ drop (i + 1) bounds) (sym found) in
-    let later = bounds_of n encoding (next + fresh_for encoding (length it.items) it.limit) (drop (i + 1) bounds) in
-    emitted_within old now new all (bounds_of n encoding next (it ∷ [])) later
-    (emitted_same old now all (bounds_of n encoding next (drop i bounds)) (bounds_of n encoding next (it ∷ []) ++ later) emitted (ap (bounds_of n encoding next) split ∙ bounds_step n encoding next it (drop (i + 1) bounds))) h

@@ -16,9 +16,9 @@ use Rattle.step_vars.specs.Encoding.{VarsValue, vars_of, numbering_of, helper_co
 use Rattle.step_vars.proofs.Inverse.{number_before_helpers}
 use Rattle.step_vars.proofs.HelperCounts.{helper_count-append}
 use Rattle.step_vars.proofs.Limited.{places_counted, ions_counted, zone_counted, slot_counted, crossing_counted}
-use Rattle.step_clauses.specs.Encoded.{IsEncodedClause, AreEncodedClauses, AreEncodedBounds}
+use Rattle.clause_families.specs.Encoded.{IsEncodedClause, AreEncodedClauses, AreEncodedBounds}
 use Rattle.step_clauses.specs.Emission.{AreVarsOf, IsStep, second_first}
-use Rattle.step_clauses.proofs.Every.{all_append}
+use Rattle.clause_families.proofs.Every.{all_append}
 use Rattle.step_clauses.proofs.Within.{has_lists, are_ops, loops_of}
 use Rattle.step_clauses.proofs.ByChannel.{from_0}
 use Rattle.step_clauses.proofs.ByPlace.{goal_clauses}

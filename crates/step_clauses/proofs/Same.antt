@@ -8,20 +8,20 @@ use Rattle.step_vars.specs.declared.channel_test.NumberedChannel.{NumberedChanne
 use Rattle.step_vars.specs.declared.channel_test.ChannelTest.TheVariants.{FromSlot, IntoSlot, Splits, Merges}
 use Rattle.step_vars.specs.declared.item.Claim.{Claim}
 use Rattle.step_vars.specs.ChannelTests.{passes}
-use Rattle.step_vars.specs.Lists.{cell, ions_of, places_of, zones_of, performed, junctions_of, acts_of, orders_of, numbered_channels}
+use Rattle.step_vars.specs.Lists.{ions_of, places_of, zones_of, performed, junctions_of, acts_of, orders_of, numbered_channels}
 use Rattle.step_vars.specs.Families.{pairs_in, leaves_from_source, leaves_to_target, leaves_use_channel, all_stay_or_leave, all_stayed_or_came, use_passes_some, use_needs_empty_slot, use_empties_slot, splits_take_the_front, swaps_in_zone, swaps_of_neighbours, swaps_turn, chains_keep_order, merges_at_the_end, act_does, ions_in_zone, acts_do, all_done_by_acts, done_in_order, goal_needs_all, start_places, start_orders, start_undone}
-use Rattle.step_vars.specs.Encoding.{VarsValue, vars_of, numbering_of, start_clauses, activity_bounds}
-use Rattle.step_clauses.specs.declared.by_channel.IonRule.TheVariants.{FromSource, ToTarget, UsesChannel, FindsEmptySlot, EmptiesSlot}
-use Rattle.step_clauses.specs.declared.by_channel.TwoIonRule.TheVariants.{GoesAlong, MergesOutside}
-use Rattle.step_clauses.specs.declared.by_pair.PairRule.TheVariants.{InZone, NoneBetween, Turns}
-use Rattle.step_clauses.specs.declared.by_place.PlaceChannels.{PlaceChannels}
+use Rattle.step_vars.specs.Encoding.{start_clauses, activity_bounds}
+use Rattle.clause_families.specs.declared.by_channel.IonRule.TheVariants.{FromSource, ToTarget, UsesChannel, FindsEmptySlot, EmptiesSlot}
+use Rattle.clause_families.specs.declared.by_channel.TwoIonRule.TheVariants.{GoesAlong, MergesOutside}
+use Rattle.clause_families.specs.declared.by_pair.PairRule.TheVariants.{InZone, NoneBetween, Turns}
+use Rattle.clause_families.specs.declared.by_place.PlaceChannels.{PlaceChannels}
 use Rattle.qc_base.specs.declared.ids.Ion.{Ion}
 use Rattle.step_rules.specs.Placement.{start_of}
 use Rattle.step_vars.specs.declared.item.Bound.{Bound}
-use Rattle.step_clauses.specs.Bounds.{one_activity, crossed}
+use Rattle.clause_families.specs.Bounds.{one_activity, crossed}
 use Rattle.step_clauses.specs.Start.{place_claim, order_claim, undone}
 use Rattle.step_clauses.specs.Operations.{op_in_zones, stays_done, in_order, goal_needs}
-use Rattle.step_clauses.specs.Clauses.{row_of, passers, by_passing_pair, passing, by_ion, by_two_ions, by_pair, was_or_passes, at_ends_from, at_ends_into}
+use Rattle.clause_families.specs.Clauses.{passers, by_passing_pair, passing, by_ion, by_two_ions, by_pair, was_or_passes, at_ends_from, at_ends_into}
 
 -- three parts that were added one after another
 pub three_parts : {X : Type 0} (before first second third a b c d e f : List X) → first ≡ before ++ a → a ≡ d → second ≡ first ++ b → b ≡ e → third ≡ second ++ c → c ≡ f
@@ -96,28 +96,6 @@ pub arrivals_are : (s : SettingValue) (r t : ℕ) (ions places : List ℕ) (chan
     → lists ≡ map (at_ends_into channels) places
     → flat_map (λ i. map (was_or_passes t r t i) lists) ions ≡ all_stayed_or_came s r t
 arrivals_are s r t ions places channels lists e f g h = rw (h, e, f, g) (flat_twice (was_or_passes t r t) (at_ends_into (numbered_channels s)) (ions_of s) (places_of s))
-
--- ---- the lists of the variables
-
-rows_are : (xs : List ℕ) → map row_of (map (λ g. cell g 0) xs) ≡ xs
-rows_are [] = refl
-rows_are (x ∷ xs) = ap (λ rest. x ∷ rest) (rows_are xs)
-
-pub ops_are : (s : SettingValue) (v : VarsValue) → v ≡ vars_of s v.encoding v.steps → map row_of v.numbering.ops ≡ performed s.circuit
-unfolding vars_of numbering_of
-ops_are s v e = ap (λ (w : VarsValue). map row_of w.numbering.ops) e ∙ rows_are (performed s.circuit)
-
-pub pairs_are : (s : SettingValue) (v : VarsValue) → v ≡ vars_of s v.encoding v.steps → v.numbering.pairs ≡ pairs_in s
-unfolding vars_of numbering_of
-pairs_are s v e = ap (λ (w : VarsValue). w.numbering.pairs) e
-
-pub acts_are : (s : SettingValue) (v : VarsValue) → v ≡ vars_of s v.encoding v.steps → v.numbering.acts ≡ acts_of s
-unfolding vars_of numbering_of
-acts_are s v e = ap (λ (w : VarsValue). w.numbering.acts) e
-
-pub orders_are : (s : SettingValue) (v : VarsValue) → v ≡ vars_of s v.encoding v.steps → v.orders ≡ orders_of s.circuit
-unfolding vars_of
-orders_are s v e = ap (λ (w : VarsValue). w.orders) e
 
 -- ---- parts of a group of families
 

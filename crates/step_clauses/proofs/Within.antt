@@ -16,10 +16,10 @@ use Rattle.step_vars.specs.Numbering.{Numbering, rank, is_cell}
 use Rattle.step_vars.specs.Lists.{cell, between, ion_count, zones_of, pairs_of, performed, able_zones, forced_before, acts_of, orders_of, numbered_from}
 use Rattle.step_vars.specs.Families.{pairs_in}
 use Rattle.step_vars.specs.Encoding.{VarsValue, vars_of, numbering_of}
-use Rattle.step_clauses.specs.Clauses.{number_of}
-use Rattle.step_clauses.specs.Encoded.{Differ}
+use Rattle.clause_families.specs.Clauses.{number_of}
+use Rattle.clause_families.specs.Encoded.{Differ}
 use Rattle.step_clauses.specs.Loops.{HasEnds, IsPair, IsZone, IsOp, IsAct, HasZones, Loops}
-use Rattle.step_clauses.proofs.Every.{all_weaker, all_both, all_map, all_map_back, all_flat_map, all_flat_map_back, all_filter_kept, all_range_from, all_range, differ_filter, differ_range}
+use Rattle.clause_families.proofs.Every.{all_weaker, all_both, all_map, all_map_back, all_flat_map, all_flat_map_back, all_filter_kept, all_range_from, all_range, differ_filter, differ_range}
 
 -- ---- members have ranks
 

@@ -1,8 +1,5 @@
-pub mod Clauses
+-- working notions of private functions
 pub mod Operations
-pub mod Bounds
-pub mod Tables
 pub mod Start
-pub mod Encoded
 pub mod Emission
 pub mod Loops

@@ -7,8 +7,8 @@ use Rattle.step_vars.specs.declared.channel_test.NumberedChannel.{NumberedChanne
 use Rattle.step_vars.specs.Numbering.{Numbering, rank}
 use Rattle.step_vars.specs.Lists.{ions_of, places_of, zones_of, performed, acts_of, orders_of, numbered_channels, able_zones}
 use Rattle.step_vars.specs.Families.{pairs_in}
-use Rattle.step_clauses.specs.declared.by_place.PlaceChannels.{PlaceChannels}
-use Rattle.step_clauses.specs.Encoded.{Differ}
+use Rattle.clause_families.specs.declared.by_place.PlaceChannels.{PlaceChannels}
+use Rattle.clause_families.specs.Encoded.{Differ}
 
 -- the channel has a number, and its ends are places
 pub record HasEnds (n : Numbering) (c : NumberedChannel) : Type 0 where

@@ -6,10 +6,7 @@ ghost use Rattle.step_vars.specs.Lists.{able_zones, is_ion_of};
 ghost use Rattle.step_vars.specs.Families.{act_does};
 ghost use Rattle.step_clauses.specs.Operations.{ion_in_zone, op_in_zones, stays_done, was_or_acts, in_order, goal_needs};
 
-use crate::by_channel::Times;
-use crate::clauses::Clauses;
-use crate::items::{act, at, done};
-use crate::lists::{ions_for, zones_for};
+use clause_families::{Clauses, Times, act, at, done, ions_for, zones_for};
 use qc_base::NoMemory;
 use std::alloc::Global;
 use step_rules::Setting;

@@ -7,11 +7,9 @@ ghost use Rattle.step_rules.specs.Placement.{IsPlacement};
 ghost use Rattle.step_vars.specs.Lists.{is_there, is_before};
 ghost use Rattle.step_vars.specs.Encoding.{start_clauses};
 ghost use Rattle.step_clauses.specs.Start.{is_in_place, place_claim, order_claim, undone};
-ghost use Rattle.step_clauses.specs.Tables.{AreTables};
+ghost use Rattle.clause_families.specs.Tables.{AreTables};
 
-use crate::clauses::Clauses;
-use crate::items::{at, done, ord};
-use crate::tables::Tables;
+use clause_families::{Clauses, Tables, at, done, ord};
 use qc_base::{Ion, NoMemory, PlaceId};
 use std::alloc::Global;
 use step_rules::{Config, Setting};

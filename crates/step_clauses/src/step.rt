@@ -3,18 +3,15 @@
 ghost use Rattle.std.specs.Prelude.{◌≡◌, ◌++◌, OnOk, IfOk};
 ghost use Rattle.step_vars.specs.Families.{leaves_from_source, leaves_to_target, leaves_use_channel, all_stay_or_leave, all_stayed_or_came, use_passes_some, use_needs_empty_slot, use_empties_slot, splits_take_the_front, swaps_in_zone, swaps_of_neighbours, swaps_turn, stayers_keep_order, chains_keep_order, merges_at_the_end};
 ghost use Rattle.step_vars.specs.Encoding.{passing_clauses, order_clauses, operation_clauses, place_bounds, activity_bounds};
-ghost use Rattle.step_clauses.specs.Tables.{AreTables};
+ghost use Rattle.clause_families.specs.Tables.{AreTables};
 
-use crate::bounds::{add_few_ions, add_one_activities, add_one_crossings, add_one_places};
-use crate::by_channel::{
-    IonRule, Times, TwoIonRule, add_chains, add_channels, add_ends, add_passers,
-};
-use crate::by_pair::{PairRule, add_places};
-use crate::by_place::{add_ions, channels_from, channels_into};
-use crate::clauses::Clauses;
-use crate::lists::{channels_where, zone_count};
 use crate::operations::{add_acts, add_all_done, add_ions_in_zones, add_orders};
-use crate::tables::Tables;
+use clause_families::{
+    Clauses, IonRule, PairRule, Tables, Times, TwoIonRule, add_chains, add_few_ions,
+    add_ions_at_channels, add_ions_at_places, add_one_activities, add_one_crossings,
+    add_one_places, add_pairs_at_places, add_passers, add_two_ions_at_channels, channels_from,
+    channels_into, channels_where, zone_count,
+};
 use qc_base::NoMemory;
 use std::alloc::Global;
 use step_rules::Setting;
@@ -30,21 +27,21 @@ fn add_transfers(
     requires { AreTables setting.now tables.now }
     ensures { OnOk result (out.new ≡ out.old ++ leaves_from_source setting.now times.before times.time ++ leaves_to_target setting.now times.before times.time ++ leaves_use_channel setting.now times.before times.time) }
 {
-    add_channels(
+    add_ions_at_channels(
         IonRule::FromSource,
         times,
         &tables.ions,
         &tables.channels,
         out,
     )?;
-    add_channels(
+    add_ions_at_channels(
         IonRule::ToTarget,
         times,
         &tables.ions,
         &tables.channels,
         out,
     )?;
-    add_channels(
+    add_ions_at_channels(
         IonRule::UsesChannel,
         times,
         &tables.ions,
@@ -66,7 +63,7 @@ fn add_departures(
 {
     let places = channels_from(alloc, &tables.places, &tables.channels)?;
     let both = (times.before, times.time);
-    add_ions(alloc, both, times.time, &places, &tables.ions, out)
+    add_ions_at_places(alloc, both, times.time, &places, &tables.ions, out)
 }
 
 // Adds that ions were there before or came.
@@ -82,7 +79,7 @@ fn add_arrivals(
 {
     let places = channels_into(alloc, &tables.places, &tables.channels)?;
     let both = (times.time, times.before);
-    add_ions(alloc, both, times.time, &places, &tables.ions, out)
+    add_ions_at_places(alloc, both, times.time, &places, &tables.ions, out)
 }
 
 // Adds that channels lead into empty slots, and whole chains out of slots.
@@ -98,9 +95,9 @@ fn add_slots(
 {
     let zones = zone_count(setting);
     let into = channels_where(alloc, ChannelTest::IntoSlot(zones), &tables.channels)?;
-    add_channels(IonRule::FindsEmptySlot, times, &tables.ions, &into, out)?;
+    add_ions_at_channels(IonRule::FindsEmptySlot, times, &tables.ions, &into, out)?;
     let from = channels_where(alloc, ChannelTest::FromSlot(zones), &tables.channels)?;
-    add_channels(IonRule::EmptiesSlot, times, &tables.ions, &from, out)
+    add_ions_at_channels(IonRule::EmptiesSlot, times, &tables.ions, &from, out)
 }
 
 // Adds that a split takes the ions at the exit.
@@ -115,7 +112,7 @@ fn add_splits(
     ensures { OnOk result (out.new ≡ out.old ++ splits_take_the_front setting.now times.before times.time) }
 {
     let splits = channels_where(alloc, ChannelTest::Splits, &tables.channels)?;
-    add_ends(TwoIonRule::GoesAlong, times, &tables.ions, &splits, out)
+    add_two_ions_at_channels(TwoIonRule::GoesAlong, times, &tables.ions, &splits, out)
 }
 
 /// Adds how ions pass through channels.
@@ -149,9 +146,9 @@ fn add_swaps(
 {
     let ions = &tables.ions;
     let zones = &tables.zones;
-    add_places(PairRule::InZone, times, ions, tables.pairs, zones, out)?;
-    add_places(PairRule::NoneBetween, times, ions, tables.pairs, zones, out)?;
-    add_places(PairRule::Turns, times, ions, tables.pairs, zones, out)
+    add_pairs_at_places(PairRule::InZone, times, ions, tables.pairs, zones, out)?;
+    add_pairs_at_places(PairRule::NoneBetween, times, ions, tables.pairs, zones, out)?;
+    add_pairs_at_places(PairRule::Turns, times, ions, tables.pairs, zones, out)
 }
 
 // Adds that ions that stay keep their order.
@@ -165,7 +162,7 @@ fn add_stayers(
     ensures { OnOk result (out.new ≡ out.old ++ stayers_keep_order setting.now times.before times.time) }
 {
     let rule = PairRule::Stays(zone_count(setting));
-    add_places(rule, times, &tables.ions, tables.pairs, &tables.places, out)
+    add_pairs_at_places(rule, times, &tables.ions, tables.pairs, &tables.places, out)
 }
 
 // Adds that ions merge at the end by which they come.
@@ -180,7 +177,7 @@ fn add_merges(
     ensures { OnOk result (out.new ≡ out.old ++ merges_at_the_end setting.now times.before times.time) }
 {
     let merges = channels_where(alloc, ChannelTest::Merges, &tables.channels)?;
-    add_ends(TwoIonRule::MergesOutside, times, &tables.ions, &merges, out)
+    add_two_ions_at_channels(TwoIonRule::MergesOutside, times, &tables.ions, &merges, out)
 }
 
 /// Adds the order of ions.

@@ -15,8 +15,8 @@ use Rattle.step_vars.specs.Numbering.{literal_of}
 use Rattle.step_vars.specs.Limits.{limited, fresh_for}
 use Rattle.step_vars.specs.Encoding.{VarsValue, literals_of, bounds_of, helper_count}
 use Rattle.step_facts.specs.Facts.{Facts, AreBounded}
-use Rattle.step_clauses.specs.Encoded.{IsEncoded, IsEncodedBound, AreEncodedBounds}
-use Rattle.step_clauses.proofs.Literals.{bound_later}
+use Rattle.clause_families.specs.Encoded.{IsEncoded, IsEncodedBound, AreEncodedBounds}
+use Rattle.clause_families.proofs.Literals.{bound_later}
 use Rattle.step_models.specs.Models.{facts_by}
 use Rattle.step_models.proofs.Truth.{Says, IsOwn, item_own}
 use Rattle.step_models.proofs.Limited.{EncodingsLimit, bound_limits, counted, count_said}

@@ -27,7 +27,7 @@ use Rattle.step_vars.specs.Families.{bound, others, thirds, pairs_in, start_plac
 use Rattle.step_vars.specs.Limits.{limited, fresh_for}
 use Rattle.step_vars.specs.Encoding.{IsSmall, place_bounds, passing_clauses, activity_bounds, order_clauses, operation_clauses, start_clauses, helper_count, numbering_of, clause_of, clauses_of, literals_of, bounds_of, step_part, layer_of, goal_of, part_of, encoding_of}
 use Rattle.step_vars.proofs.Limited.{places_counted, ions_counted, crossing_counted}
-use Rattle.step_clauses.proofs.Every.{all_append}
+use Rattle.clause_families.proofs.Every.{all_append}
 use Rattle.step_models.proofs.Room.{filter_few, flat_map_few, range_long, few_pairs, few_performed, few_acts, few_activities}
 use Rattle.step_models.proofs.FewLimited.{few_limited, few_of_one}
 

@@ -21,8 +21,8 @@ use Rattle.step_vars.specs.Numbering.{Numbering}
 use Rattle.step_vars.specs.Limits.{limited, fresh_for, clauses_by, count_by, IsWithin}
 use Rattle.step_vars.specs.Encoding.{VarsValue, literals_of}
 use Rattle.step_facts.specs.Facts.{Facts}
-use Rattle.step_clauses.specs.Encoded.{IsEncoded, IsEncodedBound}
-use Rattle.step_clauses.proofs.Literals.{has_room, lits_long}
+use Rattle.clause_families.specs.Encoded.{IsEncoded, IsEncodedBound}
+use Rattle.clause_families.proofs.Literals.{has_room, lits_long}
 use Rattle.step_models.specs.Models.{facts_by}
 use Rattle.step_models.proofs.Truth.{Says, claim_said}
 

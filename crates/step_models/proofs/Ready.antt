@@ -8,9 +8,9 @@ use Rattle.step_vars.specs.Families.{goal_needs_all}
 use Rattle.step_vars.specs.Encoding.{VarsValue, IsSmall, vars_of, numbering_of, helper_count, place_bounds, passing_clauses, activity_bounds, order_clauses, operation_clauses, start_clauses}
 use Rattle.step_vars.proofs.StepHelpers.{place_helpers, activity_helpers}
 use Rattle.step_facts.specs.Run.{IsSetting}
-use Rattle.step_clauses.specs.Encoded.{IsEncodedClause, AreEncodedClauses, AreEncodedBounds}
+use Rattle.clause_families.specs.Encoded.{IsEncodedClause, AreEncodedClauses, AreEncodedBounds}
 use Rattle.step_clauses.specs.Emission.{AreVarsOf, IsStep, second_first}
-use Rattle.step_clauses.proofs.Every.{all_append_back}
+use Rattle.clause_families.proofs.Every.{all_append_back}
 use Rattle.step_clauses.proofs.Ready.{places_ready, activities_ready, passing_ready, others_ready, start_ready, goal_ready}
 use Rattle.step_models.proofs.Room.{helpers_fit}
 

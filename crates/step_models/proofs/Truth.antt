@@ -13,8 +13,8 @@ use Rattle.step_vars.specs.Numbering.{Numbering, number_of, literal_of, before, 
 use Rattle.step_vars.specs.Encoding.{VarsValue, clause_of, clauses_of}
 use Rattle.step_vars.proofs.Inverse.{number_to_item, number_within, number_from_1, helper_is_no_item}
 use Rattle.step_facts.specs.Facts.{Facts, holds, SomeHolds, AllHold}
-use Rattle.step_clauses.specs.Encoded.{IsEncoded, AreEncodedClauses, item_of}
-use Rattle.step_clauses.proofs.Literals.{number_is}
+use Rattle.clause_families.specs.Encoded.{IsEncoded, AreEncodedClauses, item_of}
+use Rattle.clause_families.proofs.Literals.{number_is}
 use Rattle.step_models.specs.Models.{facts_by}
 
 -- the assignment says of each item that has a number what the facts say

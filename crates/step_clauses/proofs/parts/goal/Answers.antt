@@ -3,10 +3,11 @@ use Rattle.at_most.proofs.Emitted.{on_ok_also, on_err_also}
 use Rattle.std.proofs.Common.{map}
 use Rattle.step_rules.specs.Setting.{setting_of}
 use Rattle.step_vars.specs.Encoding.{clauses_of}
-use Rattle.step_clauses.specs.Clauses.{row_of}
+use Rattle.clause_families.specs.Clauses.{row_of}
 use Rattle.step_clauses.specs.Operations.{goal_needs}
-use Rattle.step_clauses.specs.Encoded.{AreEncodedClauses}
-use Rattle.step_clauses.proofs.Same.{ops_are, goal_said}
+use Rattle.clause_families.specs.Encoded.{AreEncodedClauses}
+use Rattle.clause_families.proofs.KeptLists.{ops_are}
+use Rattle.step_clauses.proofs.Same.{goal_said}
 use Rattle.step_clauses.proofs.Prefixes.{prefix_same, goal_is}
 use Rattle.step_clauses.proofs.Ready.{goal_ready}
 use Rattle.step_clauses.proofs.parts.goal.Goals as goal

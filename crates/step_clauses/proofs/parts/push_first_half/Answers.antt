@@ -1,7 +1,7 @@
 use Rattle.std.proofs.Common.{ℕ, List, ap, sym, subst, ◌++◌, ◌∙◌}
 use Rattle.step_vars.specs.declared.item.Bound.{Bound}
 use Rattle.step_vars.specs.Encoding.{place_bounds, passing_clauses}
-use Rattle.step_clauses.specs.Encoded.{AreEncodedBounds, AreEncodedClauses}
+use Rattle.clause_families.specs.Encoded.{AreEncodedBounds, AreEncodedClauses}
 use Rattle.step_clauses.proofs.Ready.{places_ready, passing_ready}
 use Rattle.step_clauses.proofs.parts.push_first_half.Goals as goal
 

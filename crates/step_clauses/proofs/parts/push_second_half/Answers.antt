@@ -1,7 +1,7 @@
 use Rattle.std.proofs.Common.{List, ap, sym, subst, ◌++◌, ◌∙◌}
 use Rattle.step_vars.specs.declared.item.Bound.{Bound}
 use Rattle.step_vars.specs.Encoding.{order_clauses, operation_clauses}
-use Rattle.step_clauses.specs.Encoded.{AreEncodedBounds, AreEncodedClauses}
+use Rattle.clause_families.specs.Encoded.{AreEncodedBounds, AreEncodedClauses}
 use Rattle.step_clauses.proofs.Ready.{activities_ready, others_ready}
 use Rattle.step_clauses.proofs.parts.push_second_half.Goals as goal
 

@@ -1,6 +1,6 @@
 use Rattle.std.proofs.Common.{ap, sym, subst, ◌++◌, ◌∙◌}
 use Rattle.step_vars.specs.Encoding.{start_clauses}
-use Rattle.step_clauses.specs.Encoded.{AreEncodedClauses}
+use Rattle.clause_families.specs.Encoded.{AreEncodedClauses}
 use Rattle.step_clauses.proofs.Ready.{start_ready}
 use Rattle.step_clauses.proofs.parts.push_start.Goals as goal
 

@@ -1,7 +1,7 @@
 use Rattle.std.proofs.Common.{ℕ, ◌<◌, List, sym, subst, ◌∙◌}
 use Rattle.std.specs.List.{AllByRecursion}
 use Rattle.trap_model.specs.Trap.{place_count}
-use Rattle.step_clauses.proofs.Every.{all_range}
+use Rattle.clause_families.proofs.Every.{all_range}
 use Rattle.step_clauses.proofs.step.places_hold.Goals as goal
 
 pub add_few_ions-requires-clause-places : goal.add_few_ions-requires-clause-places

@@ -1,0 +1,6 @@
+pub mod Ranges
+pub mod Every
+pub mod Numbered
+pub mod Literals
+pub mod NextBound
+pub mod KeptLists

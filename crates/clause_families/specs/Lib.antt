@@ -1,0 +1,4 @@
+pub mod Encoded
+pub mod Tables
+pub mod Clauses
+pub mod Bounds

@@ -1,6 +1,0 @@
-use Rattle.std.proofs.Common.{◌≡◌, ◌++◌, drop, map}
-use Rattle.step_clauses.specs.Bounds.{crossed}
-use Rattle.step_clauses.proofs.bounds.add_one_crossings.Given as goal
-
-abbrev pub invariant-loop-junction : goal.invariant-loop-junction
-invariant-loop-junction l = l.out.items ++ map (crossed l.time l.channels) (drop l.junction-index l.junctions) ≡ l.fn.out.items ++ map (crossed l.time l.channels) l.junctions

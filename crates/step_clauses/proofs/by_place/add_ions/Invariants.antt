@@ -1,7 +1,0 @@
-use Rattle.std.proofs.Common.{◌≡◌, ◌++◌, drop, map}
-use Rattle.std.specs.List.{flat_map}
-use Rattle.step_clauses.specs.Clauses.{was_or_passes}
-use Rattle.step_clauses.proofs.by_place.add_ions.Given as goal
-
-abbrev pub invariant-loop-ion : goal.invariant-loop-ion
-invariant-loop-ion l = l.out ++ flat_map (λ i. map (was_or_passes l.times.0 l.times.1 l.step i) l.places) (drop l.ion-index l.ions) ≡ l.fn.out ++ flat_map (λ i. map (was_or_passes l.times.0 l.times.1 l.step i) l.places) l.ions

@@ -1,6 +1,0 @@
-use Rattle.std.proofs.Common.{◌≡◌, ◌++◌, drop, map}
-use Rattle.step_clauses.specs.Clauses.{at_ends_from}
-use Rattle.step_clauses.proofs.by_place.channels_from.Given as goal
-
-abbrev pub invariant-loop-place : goal.invariant-loop-place
-invariant-loop-place l = l.lists.items ++ map (at_ends_from l.channels) (drop l.place-index l.places) ≡ map (at_ends_from l.channels) l.places

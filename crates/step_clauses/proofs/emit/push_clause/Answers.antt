@@ -1,8 +1,0 @@
-use Rattle.std.proofs.Common.{sym, subst, ◌∙◌}
-use Rattle.sat_base.specs.Clauses.{HasDistinctVariables}
-use Rattle.step_clauses.proofs.Literals.{distinct_clause}
-use Rattle.step_clauses.proofs.emit.push_clause.Goals as goal
-
-pub push-requires : goal.push-requires
-push-requires c =
-    subst HasDistinctVariables (sym (c.deref.ensures.value ∙ c.in_ok-lits.ensures)) (distinct_clause c.args.vars.now c.args.claims.now c.requires)

@@ -1,8 +1,0 @@
-use Rattle.std.proofs.Common.{◌≡◌, ◌++◌, drop}
-use Rattle.std.specs.Prelude.{filter}
-use Rattle.step_vars.specs.ChannelTests.{passes}
-use Rattle.step_clauses.specs.Clauses.{passing}
-use Rattle.step_clauses.proofs.lists.channels_where.Given as goal
-
-abbrev pub invariant-loop-channel : goal.invariant-loop-channel
-invariant-loop-channel l = l.list.items ++ (filter (passing (passes l.test)) (drop l.channel-index l.channels)) ≡ (filter (passing (passes l.test)) l.channels)

@@ -1,6 +1,0 @@
-use Rattle.std.proofs.Common.{◌≡◌, ◌++◌, drop, map}
-use Rattle.step_clauses.specs.Clauses.{row_of}
-use Rattle.step_clauses.proofs.lists.rows.Given as goal
-
-abbrev pub invariant-loop-cell : goal.invariant-loop-cell
-invariant-loop-cell l = l.rows.items ++ map row_of (drop l.cell-index l.cells) ≡ map row_of l.cells

@@ -1,9 +1,0 @@
-use Rattle.std.proofs.Common.{◌∙◌}
-use Rattle.std.proofs.lemmas.Result.{IfOk-weaker}
-use Rattle.std.proofs.Common.{ap, map}
-use Rattle.step_clauses.specs.Clauses.{row_of}
-use Rattle.step_clauses.proofs.Same.{ops_are}
-use Rattle.step_clauses.proofs.tables.ops.Goals as goal
-
-pub returns : goal.returns
-returns c = IfOk-weaker c.rows.result _ _ (λ list e. e ∙ ap (map row_of) c.ops.ensures ∙ ops_are c.args.setting.now c.args.vars.now c.requires) c.rows.ensures
