@@ -1,13 +1,14 @@
--- What clauses and lists need of their items to be added as literals.
+-- What clauses and lists need of their items to be added as literals, and what is added.
 use Rattle.std.specs.Prelude.{◌≢◌, ℕ, ◌+◌, ◌<◌, ◌≤◌, ◌^◌, IsSome, List, [], ◌∷◌, length, map}
 use Rattle.std.specs.List.{AllByRecursion}
+use Rattle.sat_base.specs.Literal.{Literal}
 use Rattle.step_vars.specs.declared.item.Item.{Item}
 use Rattle.step_vars.specs.declared.item.Claim.{Claim}
 use Rattle.step_vars.specs.declared.item.Bound.{Bound}
 use Rattle.step_vars.specs.Items.{time_of, so}
 use Rattle.step_vars.specs.Numbering.{number_of, literal_of}
 use Rattle.step_vars.specs.Limits.{IsWithin}
-use Rattle.step_vars.specs.Encoding.{VarsValue, helper_count}
+use Rattle.step_vars.specs.Encoding.{VarsValue, bounds_of, helper_count}
 
 -- no member is there twice
 abbrev pub Differ : {X : Type 0} → List X → Type 0
@@ -42,3 +43,7 @@ pub record AreEncodedBounds (vars : VarsValue) (first : ℕ) (bounds : List Boun
   pub each : AllByRecursion (IsEncodedBound vars first) bounds
   pub from_1 : 1 ≤ first
   pub room : first + helper_count vars.encoding bounds ≤ 2 ^ 31
+
+-- the clauses of lists, with helpers from a number on
+abbrev pub bound_clauses : VarsValue → ℕ → List Bound → List (List Literal)
+bound_clauses vars first bounds = bounds_of vars.numbering vars.encoding first bounds

@@ -5,7 +5,7 @@ ghost use Rattle.std.specs.List.{AllByRecursion};
 ghost use Rattle.trap_model.specs.Trap.{place_count};
 ghost use Rattle.step_vars.specs.Lists.{ions_of};
 ghost use Rattle.step_vars.specs.Families.{bound, few_ions};
-ghost use Rattle.clause_families.specs.Bounds.{one_place_of, ions_at, used, swapped, acted, zone_items, one_activity, crossed};
+ghost use Rattle.clause_families.specs.Bounds.{one_place_of, ions_at, used, swapped, acted, zone_items_of, one_activity_of, crossed};
 
 use crate::items::{act, at, swap, uses};
 use crate::lists::{numbers_where, ops_of, zone_count};
@@ -26,7 +26,8 @@ fn places_of_ion(alloc: Global, time: u32, places: &[u32], ion: u32) -> Result<V
     Ok(items)
 }
 
-/// Adds that each ion is in at most one place.
+/// Adds a list for each ion, in order: the ion is in at most one of these places at the time.
+/// An `Err` is out of memory; nothing is said of `out` then.
 pub fn add_one_places(
     alloc: Global,
     time: u32,
@@ -78,7 +79,8 @@ fn add_few_ions_at(
     Ok(())
 }
 
-/// Adds that each place has no more ions than its limit.
+/// Adds a list for each place, in order: no more of the ions than its limit are there at the time.
+/// An `Err` is out of memory; nothing is said of `out` then.
 pub fn add_few_ions(
     alloc: Global,
     setting: &Setting,
@@ -136,7 +138,8 @@ fn add_in_zone(
     place: u32,
     items: &mut Vec<Item>,
 ) -> Result<(), NoMemory>
-    ensures { OnOk result (items.new.items ≡ items.old.items ++ zone_items setting.now time place tables.now.pairs.now tables.now.ops.items) }
+    ensures { OnOk result (items.new.items
+        ≡ items.old.items ++ zone_items_of setting.now tables.now time place) }
 {
     if place < zone_count(setting) {
         let ops = ops_of(alloc, setting, place, &tables.ops)?;
@@ -166,7 +169,7 @@ fn activity(
     time: u32,
     place: u32,
 ) -> Result<Bound, NoMemory>
-    ensures { IfOk result (λ it. it ≡ one_activity setting.now time tables.now.channels.items tables.now.pairs.now tables.now.ops.items place) }
+    ensures { IfOk result (λ it. it ≡ one_activity_of setting.now tables.now time place) }
 {
     let test = ChannelTest::Touching(PlaceId(place));
     let channels = numbers_where(alloc, test, &tables.channels)?;
@@ -176,7 +179,9 @@ fn activity(
     Ok(at_most_one(items))
 }
 
-/// Adds that at each of these places at most one thing happens.
+/// Adds a list for each place, in order: in the step at most one channel is used that begins or ends there,
+/// or pair swapped or operation performed in the zone. An `Err` is out of memory; nothing is said of `out`
+/// then.
 pub fn add_one_activities(
     alloc: Global,
     setting: &Setting,
@@ -185,7 +190,8 @@ pub fn add_one_activities(
     places: &[u32],
     out: &mut Vec<Bound>,
 ) -> Result<(), NoMemory>
-    ensures { OnOk result (out.new.items ≡ out.old.items ++ map (one_activity setting.now time tables.now.channels.items tables.now.pairs.now tables.now.ops.items) places.now) }
+    ensures { OnOk result (out.new.items
+        ≡ out.old.items ++ map (one_activity_of setting.now tables.now time) places.now) }
 {
     for place in places {
         let it = activity(alloc, setting, tables, time, *place)?;
@@ -211,7 +217,8 @@ fn crossing(
     Ok(at_most_one(items))
 }
 
-/// Adds that through each junction at most one chain passes.
+/// Adds a list for each junction, in order: in the step at most one of the channels through it is used.
+/// An `Err` is out of memory; nothing is said of `out` then.
 pub fn add_one_crossings(
     alloc: Global,
     time: u32,

@@ -1,8 +1,7 @@
 //! The families that run over channels.
 
-ghost use Rattle.std.specs.Prelude.{◌≡◌, ◌==◌, ◌∷◌, [], ◌++◌, map, filter, not, OnOk, IfOk};
-ghost use Rattle.std.specs.List.{flat_map};
-ghost use Rattle.clause_families.specs.Clauses.{by_ion, by_two_ions, by_passing_pair, passers};
+ghost use Rattle.std.specs.Prelude.{◌≡◌, ◌∷◌, [], ◌++◌, map, OnOk, IfOk};
+ghost use Rattle.clause_families.specs.Clauses.{by_ion, ions_at_channels, by_two_ions, with_others, two_ions_at, two_ions_at_channels, by_passing_pair, pairs_at, pairs_at_channels, passers};
 
 use crate::by_pair::{add_keeping, add_turning};
 use crate::clauses::Clauses;
@@ -14,7 +13,9 @@ use step_vars::{Cell, Claim, NumberedChannel};
 /// The times between which a step leads.
 #[derive(Clone, Copy, Debug, PartialEq, Eq)]
 pub struct Times {
+    /// The time before the step.
     pub before: u32,
+    /// The time after it, which is also the number of the step.
     pub time: u32,
 }
 
@@ -94,7 +95,8 @@ fn add_ions(
     Ok(())
 }
 
-/// Adds what is said of these channels with all ions.
+/// Adds one clause by the rule for each channel with each ion, channel after channel.
+/// An `Err` is out of memory; nothing is said of `out` then.
 pub fn add_ions_at_channels(
     rule: IonRule,
     times: Times,
@@ -102,7 +104,7 @@ pub fn add_ions_at_channels(
     channels: &[NumberedChannel],
     out: &mut Clauses,
 ) -> Result<(), NoMemory>
-    ensures { OnOk result (out.new ≡ out.old ++ flat_map (λ c. map (by_ion rule times.before times.time c) ions.now) channels.now) }
+    ensures { OnOk result (out.new ≡ out.old ++ ions_at_channels rule times ions.now channels.now) }
 {
     for c in channels {
         add_ions(rule, times, ions, c, out)?;
@@ -119,7 +121,8 @@ fn add_two(
     other: u32,
     out: &mut Clauses,
 ) -> Result<(), NoMemory>
-    ensures { OnOk result (out.new ≡ out.old ++ by_two_ions rule times.before times.time c.now ion other ∷ []) }
+    ensures { OnOk result (out.new
+        ≡ out.old ++ by_two_ions rule times.before times.time c.now ion other ∷ []) }
 {
     let leaving = Claim::not_so(leaves(ion, c.number, times.time));
     match rule {
@@ -146,7 +149,7 @@ fn add_others(
     ion: u32,
     out: &mut Clauses,
 ) -> Result<(), NoMemory>
-    ensures { OnOk result (out.new ≡ out.old ++ map (by_two_ions rule times.before times.time c.now ion) (filter (λ j. not (j == ion)) ions.now)) }
+    ensures { OnOk result (out.new ≡ out.old ++ with_others rule times ions.now c.now ion) }
 {
     for other in ions {
         if *other != ion {
@@ -164,7 +167,7 @@ fn add_all_others(
     c: &NumberedChannel,
     out: &mut Clauses,
 ) -> Result<(), NoMemory>
-    ensures { OnOk result (out.new ≡ out.old ++ flat_map (λ i. map (by_two_ions rule times.before times.time c.now i) (filter (λ j. not (j == i)) ions.now)) ions.now) }
+    ensures { OnOk result (out.new ≡ out.old ++ two_ions_at rule times ions.now c.now) }
 {
     for ion in ions {
         add_others(rule, times, ions, c, *ion, out)?;
@@ -172,7 +175,8 @@ fn add_all_others(
     Ok(())
 }
 
-/// Adds what is said of these channels with each two ions.
+/// Adds one clause by the rule for each channel with each two ions in both orders, channel after channel.
+/// An `Err` is out of memory; nothing is said of `out` then.
 pub fn add_two_ions_at_channels(
     rule: TwoIonRule,
     times: Times,
@@ -180,7 +184,7 @@ pub fn add_two_ions_at_channels(
     channels: &[NumberedChannel],
     out: &mut Clauses,
 ) -> Result<(), NoMemory>
-    ensures { OnOk result (out.new ≡ out.old ++ flat_map (λ c. flat_map (λ i. map (by_two_ions rule times.before times.time c i) (filter (λ j. not (j == i)) ions.now)) ions.now) channels.now) }
+    ensures { OnOk result (out.new ≡ out.old ++ two_ions_at_channels rule times ions.now channels.now) }
 {
     for c in channels {
         add_all_others(rule, times, ions, c, out)?;
@@ -205,7 +209,8 @@ fn passers_of(
     Ok(claims)
 }
 
-/// Adds that through each channel in use some ion passes.
+/// Adds one clause for each channel: if it is used, one of the ions passes.
+/// An `Err` is out of memory; nothing is said of `out` then.
 pub fn add_passers(
     alloc: Global,
     time: u32,
@@ -249,7 +254,7 @@ fn add_passing_pairs(
     c: &NumberedChannel,
     out: &mut Clauses,
 ) -> Result<(), NoMemory>
-    ensures { OnOk result (out.new ≡ out.old ++ flat_map (by_passing_pair times.before times.time c.now) pairs.now) }
+    ensures { OnOk result (out.new ≡ out.old ++ pairs_at times pairs.now c.now) }
 {
     for pair in pairs {
         add_passing_pair(times, c, *pair, out)?;
@@ -257,14 +262,15 @@ fn add_passing_pairs(
     Ok(())
 }
 
-/// Adds that ions that pass together keep their order.
+/// Adds two clauses for each channel with each pair: if both pass, their order stays, or turns where the
+/// channel leaves and enters by the same end. An `Err` is out of memory; nothing is said of `out` then.
 pub fn add_chains(
     times: Times,
     pairs: &[Cell],
     channels: &[NumberedChannel],
     out: &mut Clauses,
 ) -> Result<(), NoMemory>
-    ensures { OnOk result (out.new ≡ out.old ++ flat_map (λ c. flat_map (by_passing_pair times.before times.time c) pairs.now) channels.now) }
+    ensures { OnOk result (out.new ≡ out.old ++ pairs_at_channels times pairs.now channels.now) }
 {
     for c in channels {
         add_passing_pairs(times, pairs, c, out)?;

@@ -1,9 +1,8 @@
 //! The families that run over places and pairs of ions.
 
-ghost use Rattle.std.specs.Prelude.{◌≡◌, ◌==◌, ◌&&◌, ◌∷◌, [], ◌++◌, filter, not, OnOk};
-ghost use Rattle.std.specs.List.{flat_map};
+ghost use Rattle.std.specs.Prelude.{◌≡◌, ◌∷◌, [], ◌++◌, OnOk};
 ghost use Rattle.step_vars.specs.Families.{swap_in_zone, none_between, swap_turns, keeps_order, turns_order};
-ghost use Rattle.clause_families.specs.Clauses.{by_pair, staying_pair};
+ghost use Rattle.clause_families.specs.Clauses.{staying_pair, stayers, no_others_between, by_pair, by_pairs, pairs_at_places};
 
 use crate::by_channel::Times;
 use crate::clauses::Clauses;
@@ -39,7 +38,7 @@ pub fn add_keeping(
     out.push_both(premises, &[Claim::so(before), Claim::not_so(after)])
 }
 
-/// Adds that under these premises it turns.
+/// Adds that under these premises the order of a pair turns.
 pub fn add_turning(
     premises: &[Claim],
     times: Times,
@@ -91,7 +90,8 @@ fn add_none_between(
     pair: Cell,
     out: &mut Clauses,
 ) -> Result<(), NoMemory>
-    ensures { OnOk result (out.new ≡ out.old ++ flat_map (none_between times.before times.time zone pair) (filter (λ k. not (k == pair.row) && not (k == pair.col)) ions.now)) }
+    ensures { OnOk result (out.new
+        ≡ out.old ++ no_others_between ions.now times.before times.time zone pair) }
 {
     for third in ions {
         if *third != pair.row && *third != pair.col {
@@ -120,7 +120,7 @@ fn add_staying(
     pair: Cell,
     out: &mut Clauses,
 ) -> Result<(), NoMemory>
-    ensures { OnOk result (out.new ≡ out.old ++ keeps_order (staying_pair zones times.before times.time place pair) times.before times.time pair) }
+    ensures { OnOk result (out.new ≡ out.old ++ stayers zones times.before times.time place pair) }
 {
     let first_before = Claim::not_so(at(pair.row, place, times.before));
     let second_before = Claim::not_so(at(pair.col, place, times.before));
@@ -170,7 +170,7 @@ fn add_pairs(
     place: u32,
     out: &mut Clauses,
 ) -> Result<(), NoMemory>
-    ensures { OnOk result (out.new ≡ out.old ++ flat_map (by_pair rule ions.now times.before times.time place) pairs.now) }
+    ensures { OnOk result (out.new ≡ out.old ++ by_pairs rule times ions.now pairs.now place) }
 {
     for pair in pairs {
         add_pair(rule, times, ions, place, *pair, out)?;
@@ -178,7 +178,8 @@ fn add_pairs(
     Ok(())
 }
 
-/// Adds what is said of these places with all pairs of ions.
+/// Adds the clauses by the rule for each place with each pair of ions, place after place. The ions are those
+/// that may be between the two. An `Err` is out of memory; nothing is said of `out` then.
 pub fn add_pairs_at_places(
     rule: PairRule,
     times: Times,
@@ -187,7 +188,7 @@ pub fn add_pairs_at_places(
     places: &[u32],
     out: &mut Clauses,
 ) -> Result<(), NoMemory>
-    ensures { OnOk result (out.new ≡ out.old ++ flat_map (λ p. flat_map (by_pair rule ions.now times.before times.time p) pairs.now) places.now) }
+    ensures { OnOk result (out.new ≡ out.old ++ pairs_at_places rule times ions.now pairs.now places.now) }
 {
     for place in places {
         add_pairs(rule, times, ions, pairs, *place, out)?;

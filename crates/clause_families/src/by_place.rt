@@ -1,8 +1,7 @@
 //! The families that run over ions and places.
 
 ghost use Rattle.std.specs.Prelude.{◌≡◌, ◌∷◌, [], ◌++◌, map, OnOk, IfOk};
-ghost use Rattle.std.specs.List.{flat_map};
-ghost use Rattle.clause_families.specs.Clauses.{at_ends_from, at_ends_into, was_or_passes};
+ghost use Rattle.clause_families.specs.Clauses.{at_ends_from, at_ends_into, was_or_passes, ions_at_places};
 
 use crate::clauses::Clauses;
 use crate::items::{at, leaves};
@@ -44,7 +43,7 @@ fn into_place(
     Ok(PlaceChannels { place, channels })
 }
 
-/// Each place with the channels that begin there.
+/// Each place with the numbers of the channels that begin there. An `Err` is out of memory.
 pub fn channels_from(
     alloc: Global,
     places: &[u32],
@@ -60,7 +59,7 @@ pub fn channels_from(
     Ok(lists)
 }
 
-/// Each place with the channels that end there.
+/// Each place with the numbers of the channels that end there. An `Err` is out of memory.
 pub fn channels_into(
     alloc: Global,
     places: &[u32],
@@ -113,8 +112,9 @@ fn add_places(
     Ok(())
 }
 
-/// Adds that an ion that is at a place at the one time is there at the other, or passes in the step through a channel
-/// of the place.
+/// Adds one clause for each ion with each place, ion after ion: if the ion is there at the first of the
+/// times, it is there at the second, or passes in the step through one of the channels of the place. An `Err`
+/// is out of memory; nothing is said of `out` then.
 pub fn add_ions_at_places(
     alloc: Global,
     times: (u32, u32),
@@ -123,7 +123,7 @@ pub fn add_ions_at_places(
     ions: &[u32],
     out: &mut Clauses,
 ) -> Result<(), NoMemory>
-    ensures { OnOk result (out.new ≡ out.old ++ flat_map (λ i. map (was_or_passes times.0 times.1 step i) places.now) ions.now) }
+    ensures { OnOk result (out.new ≡ out.old ++ ions_at_places times.0 times.1 step places.now ions.now) }
 {
     for ion in ions {
         add_places(alloc, times, step, places, *ion, out)?;

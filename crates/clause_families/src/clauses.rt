@@ -34,7 +34,7 @@ impl Clauses {
         }
     }
 
-    /// Adds a clause at the end.
+    /// Adds a clause at the end. An `Err` is out of memory; nothing is said of the clauses then.
     pub fn push(&mut self, claims: &[Claim]) -> Result<(), NoMemory>
         ensures { OnOk result (self.new ≡ self.old ++ claims.now ∷ []) }
     {
@@ -44,7 +44,8 @@ impl Clauses {
         Ok(())
     }
 
-    /// Adds a clause of these claims and then those.
+    /// Adds a clause of these claims and then those. An `Err` is out of memory; nothing is said of the
+    /// clauses then.
     pub fn push_both(&mut self, first: &[Claim], second: &[Claim]) -> Result<(), NoMemory>
         ensures { OnOk result (self.new ≡ self.old ++ (first.now ++ second.now) ∷ []) }
     {

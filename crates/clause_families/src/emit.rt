@@ -3,8 +3,8 @@
 ghost use Rattle.std.specs.Prelude.{◌≡◌, ◌+◌, ◌≤◌, ◌^◌, [], ◌∷◌, ◌++◌, IfOk, OnOk, OnErr};
 ghost use Rattle.std.specs.List.{AllByRecursion};
 ghost use Rattle.at_most.specs.AtMost.{AddsPrefix};
-ghost use Rattle.step_vars.specs.Encoding.{clause_of, clauses_of, literals_of, bounds_of, helper_count};
-ghost use Rattle.clause_families.specs.Encoded.{IsEncoded, IsEncodedClause, AreEncodedClauses, AreEncodedBounds, IsEncodedBound};
+ghost use Rattle.step_vars.specs.Encoding.{clause_of, clauses_of, literals_of, helper_count};
+ghost use Rattle.clause_families.specs.Encoded.{IsEncoded, IsEncodedClause, AreEncodedClauses, AreEncodedBounds, IsEncodedBound, bound_clauses};
 
 use qc_base::{Items, NoMemory};
 use sat_base::{Formula, Lit};
@@ -38,7 +38,8 @@ fn push_clause(
     out.push(&lits)
 }
 
-/// Adds clauses. After an `Err` a prefix of them was added.
+/// Adds each clause as the literals of its claims. After an `Err`, which is out of memory, a prefix of them
+/// was added.
 pub fn push_clauses(
     alloc: Global,
     vars: &Vars,
@@ -79,15 +80,16 @@ fn push_bound(
     requires from_1 { 1 ≤ next }
     requires room { next + helper_count vars.now.encoding (it.now ∷ []) ≤ 2 ^ 31 }
     ensures next { IfOk result (λ free. free ≡ next + helper_count vars.now.encoding (it.now ∷ [])) }
-    ensures ok { OnOk result (out.new ≡ out.old ++ bounds_of vars.now.numbering vars.now.encoding next (it.now ∷ [])) }
-    ensures err { OnErr result (AddsPrefix out.old out.new (bounds_of vars.now.numbering vars.now.encoding next (it.now ∷ []))) }
+    ensures ok { OnOk result (out.new ≡ out.old ++ bound_clauses vars.now next (it.now ∷ [])) }
+    ensures err { OnErr result (AddsPrefix out.old out.new (bound_clauses vars.now next (it.now ∷ []))) }
 {
     let lits = positive(alloc, vars, it.items.items())?;
     vars.encoding().emit(alloc, &lits, it.limit, next, out)
 }
 
-/// Adds the clauses of lists of which at most so many may hold, with helpers from a number on. Answers the next free
-/// number. After an `Err` a prefix of the clauses was added.
+/// Adds the clauses of lists of which at most so many may hold, one after another, with helpers from a number
+/// on. Answers the next free number. After an `Err`, which is out of memory, a prefix of the clauses was
+/// added.
 pub fn push_bounds(
     alloc: Global,
     vars: &Vars,
@@ -97,8 +99,8 @@ pub fn push_bounds(
 ) -> Result<u32, NoMemory>
     requires { AreEncodedBounds vars.now first bounds.now }
     ensures next { IfOk result (λ next. next ≡ first + helper_count vars.now.encoding bounds.now) }
-    ensures ok { OnOk result (out.new ≡ out.old ++ bounds_of vars.now.numbering vars.now.encoding first bounds.now) }
-    ensures err { OnErr result (AddsPrefix out.old out.new (bounds_of vars.now.numbering vars.now.encoding first bounds.now)) }
+    ensures ok { OnOk result (out.new ≡ out.old ++ bound_clauses vars.now first bounds.now) }
+    ensures err { OnErr result (AddsPrefix out.old out.new (bound_clauses vars.now first bounds.now)) }
 {
     let mut next = first;
     for it in bounds {

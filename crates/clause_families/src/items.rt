@@ -6,6 +6,7 @@ ghost use Rattle.step_vars.specs.Items.{at_item, ord_item, use_item, leave_item,
 use qc_base::{End, Ion, OpId, PlaceId};
 use step_vars::{Claim, Item};
 
+/// The ion is at the place at the time.
 pub fn at(ion: u32, place: u32, time: u32) -> Item
     ensures { result ≡ at_item ion place time }
 {
@@ -16,6 +17,7 @@ pub fn at(ion: u32, place: u32, time: u32) -> Item
     }
 }
 
+/// The first ion is nearer to end a than the second at the time.
 pub fn ord(first: u32, second: u32, time: u32) -> Item
     ensures { result ≡ ord_item first second time }
 {
@@ -26,12 +28,14 @@ pub fn ord(first: u32, second: u32, time: u32) -> Item
     }
 }
 
+/// The channel is used in the step.
 pub fn uses(channel: u32, step: u32) -> Item
     ensures { result ≡ use_item channel step }
 {
     Item::Use { channel, step }
 }
 
+/// The ion passes through the channel in the step.
 pub fn leaves(ion: u32, channel: u32, step: u32) -> Item
     ensures { result ≡ leave_item ion channel step }
 {
@@ -42,6 +46,7 @@ pub fn leaves(ion: u32, channel: u32, step: u32) -> Item
     }
 }
 
+/// The two ions are swapped in the zone in the step.
 pub fn swap(first: u32, second: u32, zone: u32, step: u32) -> Item
     ensures { result ≡ swap_item first second zone step }
 {
@@ -53,6 +58,7 @@ pub fn swap(first: u32, second: u32, zone: u32, step: u32) -> Item
     }
 }
 
+/// The operation is performed in the zone in the step.
 pub fn act(op: u32, zone: u32, step: u32) -> Item
     ensures { result ≡ act_item op zone step }
 {
@@ -63,6 +69,7 @@ pub fn act(op: u32, zone: u32, step: u32) -> Item
     }
 }
 
+/// The operation is done at the time.
 pub fn done(op: u32, time: u32) -> Item
     ensures { result ≡ done_item op time }
 {

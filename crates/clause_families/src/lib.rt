@@ -1,6 +1,5 @@
-//! The families of clauses of the encoding: what claims they are made of, and their clauses of literals.
-//!
-//! Each call that adds something adds it at the end. It fails where memory runs out alone.
+//! The families of clauses of the encoding, each by a call that adds its clauses of claims at the end, the
+//! lists that they run over, and the clauses of literals that are made of them.
 #![tactic(auto)]
 
 mod bounds;

@@ -28,7 +28,7 @@ pub fn numbers_below(alloc: Global, count: u32) -> Result<Vec<u32>, NoMemory>
     Ok(numbers)
 }
 
-/// The rows of cells.
+/// The rows of cells, in order. An `Err` is out of memory.
 pub fn rows(alloc: Global, cells: &[Cell]) -> Result<Vec<u32>, NoMemory>
     ensures { IfOk result (λ rows. rows.items ≡ map row_of cells.now) }
 {
@@ -54,7 +54,7 @@ pub fn numbered(alloc: Global, channels: &[Channel]) -> Result<Vec<NumberedChann
     Ok(list)
 }
 
-/// The channels that pass a test.
+/// The channels that pass a test, in order. An `Err` is out of memory.
 pub fn channels_where(
     alloc: Global,
     test: ChannelTest,
@@ -95,7 +95,7 @@ pub fn zone_count(setting: &Setting) -> u32
     setting.trap.zones().len() as u32
 }
 
-/// The zones that are able to perform an operation.
+/// The zones that are able to perform an operation, ascending. An `Err` is out of memory.
 #[tactic(auto, using(crate::proofs::Ranges::filter_taken, crate::proofs::Ranges::filter_passed))]
 pub fn zones_for(alloc: Global, setting: &Setting, op: u32) -> Result<Vec<u32>, NoMemory>
     ensures { IfOk result (λ zones. zones.items ≡ able_zones setting.now op) }
@@ -151,7 +151,7 @@ fn acts_on(setting: &Setting, op: u32, ion: u32) -> bool
     }
 }
 
-/// The ions among these that an operation acts on.
+/// The ions among these that an operation acts on, in order. An `Err` is out of memory.
 pub fn ions_for(
     alloc: Global,
     setting: &Setting,

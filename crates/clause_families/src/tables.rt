@@ -22,9 +22,13 @@ pub struct Tables<'a> {
     pub zones: Vec<u32>,
     pub junctions: Vec<u32>,
     pub channels: Vec<NumberedChannel>,
+    /// The operations that are no barrier.
     pub ops: Vec<u32>,
+    /// Two ions each, the lower number first.
     pub pairs: &'a [Cell],
+    /// Operations, each with a zone that is able to perform it.
     pub acts: &'a [Cell],
+    /// Operations, each with one that has to be done before.
     pub orders: &'a [Cell],
 }
 
@@ -84,7 +88,7 @@ fn ops(alloc: Global, setting: &Setting, vars: &Vars) -> Result<Vec<u32>, NoMemo
 }
 
 impl<'a> Tables<'a> {
-    /// The lists of a setting.
+    /// The lists of a setting, of which its variables keep some. An `Err` is out of memory.
     pub fn new(alloc: Global, setting: &Setting, vars: &'a Vars) -> Result<Tables<'a>, NoMemory>
         requires { vars.now ≡ vars_of setting.now vars.now.encoding vars.now.steps }
         ensures { IfOk result (AreTables setting.now) }

@@ -5,7 +5,8 @@ use Rattle.step_rules.specs.Setting.{SettingValue}
 use Rattle.step_vars.specs.declared.item.Claim.{Claim}
 use Rattle.step_vars.specs.declared.item.Bound.{Bound}
 use Rattle.step_vars.specs.Numbering.{sizes_at, first_helper}
-use Rattle.step_vars.specs.Encoding.{VarsValue, IsSmall, vars_of, clauses_of, bounds_of, helper_count, place_bounds, passing_clauses, activity_bounds, order_clauses, operation_clauses}
+use Rattle.step_vars.specs.Encoding.{VarsValue, IsSmall, vars_of, clauses_of, helper_count, place_bounds, passing_clauses, activity_bounds, order_clauses, operation_clauses}
+use Rattle.clause_families.specs.Encoded.{bound_clauses}
 
 -- the variables of a setting that is small enough
 pub record AreVarsOf (vars : VarsValue) (setting : SettingValue) : Type 0 where
@@ -23,8 +24,7 @@ HelpersFit vars t = first_helper vars.numbering t + (sizes_at vars.numbering t).
 
 -- lists, with helpers from a number on, and then clauses
 abbrev pub half_of : VarsValue → ℕ → List Bound → List (List Claim) → List (List Literal)
-half_of vars first bounds clauses =
-    bounds_of vars.numbering vars.encoding first bounds ++ clauses_of vars.numbering clauses
+half_of vars first bounds clauses = bound_clauses vars first bounds ++ clauses_of vars.numbering clauses
 
 -- the two halves of a step
 abbrev pub first_half : VarsValue → SettingValue → ℕ → ℕ → List (List Literal)
@@ -32,7 +32,8 @@ first_half vars setting r t =
     half_of vars (first_helper vars.numbering t) (place_bounds setting t) (passing_clauses setting r t)
 
 abbrev pub second_first : VarsValue → SettingValue → ℕ → ℕ
-second_first vars setting t = first_helper vars.numbering t + helper_count vars.encoding (place_bounds setting t)
+second_first vars setting t =
+    first_helper vars.numbering t + helper_count vars.encoding (place_bounds setting t)
 
 abbrev pub second_half : VarsValue → SettingValue → ℕ → ℕ → List (List Literal)
 second_half vars setting r t =

@@ -47,6 +47,14 @@ pub record HasChannels (n : Numbering) (e : PlaceChannels) : Type 0 where
   pub channels : AllByRecursion (λ c. c < n.channels) e.channels
   pub differ : Differ e.channels
 
+-- the operation is there, and the zone may perform it
+abbrev pub IsNumberedAct : Numbering → Cell → Type 0
+IsNumberedAct n act = IsSome (rank n.acts act.row act.col) × IsOp n act.row
+
+-- both operations are there
+abbrev pub AreOps : Numbering → Cell → Type 0
+AreOps n order = IsOp n order.row × IsOp n order.col
+
 -- the members of all lists are
 pub record Loops (n : Numbering) (setting : SettingValue) : Type 0 where
   pub ions : AllByRecursion (λ i. i < n.ions) (ions_of setting)
@@ -56,5 +64,5 @@ pub record Loops (n : Numbering) (setting : SettingValue) : Type 0 where
   pub pairs : AllByRecursion (IsPair n) (pairs_in setting)
   pub every : (i j : ℕ) → i < j → j < n.ions → IsSome (rank n.pairs i j)
   pub ops : AllByRecursion (HasZones n setting) (performed setting.circuit)
-  pub acts : AllByRecursion (λ (act : Cell). IsSome (rank n.acts act.row act.col) × IsOp n act.row) (acts_of setting)
-  pub orders : AllByRecursion (λ (order : Cell). IsOp n order.row × IsOp n order.col) (orders_of setting.circuit)
+  pub acts : AllByRecursion (IsNumberedAct n) (acts_of setting)
+  pub orders : AllByRecursion (AreOps n) (orders_of setting.circuit)

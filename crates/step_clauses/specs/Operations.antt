@@ -10,9 +10,12 @@ use Rattle.step_vars.specs.Lists.{able_zones, is_ion_of}
 abbrev pub ion_in_zone : ℕ → ℕ → ℕ → ℕ → ℕ → List Claim
 ion_in_zone r t g z i = not_so (act_item g z t) ∷ so (at_item i z r) ∷ []
 
+-- each of these ions is in the zone, for each of these zones
+abbrev pub ions_in_each : ℕ → ℕ → ℕ → List ℕ → List ℕ → List (List Claim)
+ions_in_each r t g ions zones = flat_map (λ z. map (ion_in_zone r t g z) ions) zones
+
 abbrev pub op_in_zones : SettingValue → ℕ → ℕ → List ℕ → ℕ → List (List Claim)
-op_in_zones setting r t ions g =
-    flat_map (λ z. map (ion_in_zone r t g z) (filter (is_ion_of setting g) ions)) (able_zones setting g)
+op_in_zones setting r t ions g = ions_in_each r t g (filter (is_ion_of setting g) ions) (able_zones setting g)
 
 abbrev pub was_or_acts : ℕ → ℕ → List ℕ → ℕ → List Claim
 was_or_acts r t zones g = not_so (done_item g t) ∷ so (done_item g r) ∷ map (λ z. so (act_item g z t)) zones

@@ -4,7 +4,7 @@ ghost use Rattle.std.specs.Prelude.{◌≡◌, ◌∷◌, [], ◌++◌, map, OnO
 ghost use Rattle.std.specs.List.{flat_map};
 ghost use Rattle.step_vars.specs.Lists.{able_zones, is_ion_of};
 ghost use Rattle.step_vars.specs.Families.{act_does};
-ghost use Rattle.step_clauses.specs.Operations.{ion_in_zone, op_in_zones, stays_done, was_or_acts, in_order, goal_needs};
+ghost use Rattle.step_clauses.specs.Operations.{ion_in_zone, ions_in_each, op_in_zones, stays_done, was_or_acts, in_order, goal_needs};
 
 use clause_families::{Clauses, Times, act, at, done, ions_for, zones_for};
 use qc_base::NoMemory;
@@ -37,7 +37,7 @@ fn add_zones(
     op: u32,
     out: &mut Clauses,
 ) -> Result<(), NoMemory>
-    ensures { OnOk result (out.new ≡ out.old ++ flat_map (λ z. map (ion_in_zone times.before times.time op z) ions.now) zones.now) }
+    ensures { OnOk result (out.new ≡ out.old ++ ions_in_each times.before times.time op ions.now zones.now) }
 {
     for zone in zones {
         add_ions(times, ions, op, *zone, out)?;
@@ -54,7 +54,8 @@ pub fn add_ions_in_zones(
     ops: &[u32],
     out: &mut Clauses,
 ) -> Result<(), NoMemory>
-    ensures { OnOk result (out.new ≡ out.old ++ flat_map (op_in_zones setting.now times.before times.time ions.now) ops.now) }
+    ensures { OnOk result (out.new
+        ≡ out.old ++ flat_map (op_in_zones setting.now times.before times.time ions.now) ops.now) }
 {
     for op in ops {
         let zones = zones_for(alloc, setting, *op)?;
@@ -122,7 +123,8 @@ pub fn add_all_done(
     ops: &[u32],
     out: &mut Clauses,
 ) -> Result<(), NoMemory>
-    ensures { OnOk result (out.new ≡ out.old ++ flat_map (stays_done setting.now times.before times.time) ops.now) }
+    ensures { OnOk result (out.new
+        ≡ out.old ++ flat_map (stays_done setting.now times.before times.time) ops.now) }
 {
     for op in ops {
         add_done(alloc, setting, times, *op, out)?;

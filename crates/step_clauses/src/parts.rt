@@ -59,7 +59,8 @@ fn push_first_half(
     requires room { HelpersFit vars.now times.time }
     ensures next { IfOk result (λ next. next ≡ second_first vars.now setting.now times.time) }
     ensures ok { OnOk result (out.new ≡ out.old ++ first_half vars.now setting.now times.before times.time) }
-    ensures err { OnErr result (AddsPrefix out.old out.new (first_half vars.now setting.now times.before times.time)) }
+    ensures err { OnErr result (AddsPrefix out.old out.new
+        (first_half vars.now setting.now times.before times.time)) }
 {
     let bounds = places_hold(alloc, setting, tables, times.time)?;
     let mut clauses = Clauses::new(alloc);
@@ -83,7 +84,8 @@ fn push_second_half(
     requires room { HelpersFit vars.now times.time }
     requires next { next ≡ second_first vars.now setting.now times.time }
     ensures ok { OnOk result (out.new ≡ out.old ++ second_half vars.now setting.now times.before times.time) }
-    ensures err { OnErr result (AddsPrefix out.old out.new (second_half vars.now setting.now times.before times.time)) }
+    ensures err { OnErr result (AddsPrefix out.old out.new
+        (second_half vars.now setting.now times.before times.time)) }
 {
     let bounds = happen_at_once(alloc, setting, tables, times.time)?;
     let mut clauses = Clauses::new(alloc);
@@ -105,8 +107,10 @@ fn push_step(
     requires vars { AreVarsOf vars.now setting.now }
     requires tables { AreTables setting.now tables.now }
     requires step { IsStep vars.now times.before times.time }
-    ensures ok { OnOk result (out.new ≡ out.old ++ step_part vars.now.numbering setting.now vars.now.encoding times.before times.time) }
-    ensures err { OnErr result (AddsPrefix out.old out.new (step_part vars.now.numbering setting.now vars.now.encoding times.before times.time)) }
+    ensures ok { OnOk result (out.new
+        ≡ out.old ++ step_part vars.now.numbering setting.now vars.now.encoding times.before times.time) }
+    ensures err { OnErr result (AddsPrefix out.old out.new
+        (step_part vars.now.numbering setting.now vars.now.encoding times.before times.time)) }
 {
     let first = vars.first_helper(times.time);
     let next = push_first_half(alloc, vars, setting, tables, times, first, out)?;
@@ -124,8 +128,10 @@ fn push_start(
     requires vars { AreVarsOf vars.now setting.now }
     requires tables { AreTables setting.now tables.now }
     requires placement { IsPlacement setting.now.trap setting.now.circuit setting.now.placement }
-    ensures ok { OnOk result (out.new ≡ out.old ++ clauses_of vars.now.numbering (start_clauses setting.now)) }
-    ensures err { OnErr result (AddsPrefix out.old out.new (clauses_of vars.now.numbering (start_clauses setting.now))) }
+    ensures ok { OnOk result (out.new
+        ≡ out.old ++ clauses_of vars.now.numbering (start_clauses setting.now)) }
+    ensures err { OnErr result (AddsPrefix out.old out.new
+        (clauses_of vars.now.numbering (start_clauses setting.now))) }
 {
     let mut clauses = Clauses::new(alloc);
     add_start(alloc, setting, tables, &mut clauses)?;
@@ -142,12 +148,15 @@ pub fn layer(
     t: u32,
     out: &mut Formula,
 ) -> Result<(), NoMemory>
-    requires vars { vars.now ≡ vars_of (setting_of trap.now circuit.now placement.now) vars.now.encoding vars.now.steps }
+    requires vars { vars.now
+        ≡ vars_of (setting_of trap.now circuit.now placement.now) vars.now.encoding vars.now.steps }
     requires small { IsSmall (setting_of trap.now circuit.now placement.now) vars.now.steps }
     requires placement { IsPlacement trap.now circuit.now placement.now }
     requires t { t ≤ vars.now.steps }
-    ensures ok { OnOk result (out.new ≡ out.old ++ layer_of (setting_of trap.now circuit.now placement.now) vars.now.encoding t) }
-    ensures err { OnErr result (AddsPrefix out.old out.new (layer_of (setting_of trap.now circuit.now placement.now) vars.now.encoding t)) }
+    ensures ok { OnOk result (out.new
+        ≡ out.old ++ layer_of (setting_of trap.now circuit.now placement.now) vars.now.encoding t) }
+    ensures err { OnErr result (AddsPrefix out.old out.new
+        (layer_of (setting_of trap.now circuit.now placement.now) vars.now.encoding t)) }
 {
     let setting = Setting {
         trap,
@@ -176,10 +185,13 @@ pub fn goal(
     t: u32,
     out: &mut Formula,
 ) -> Result<(), NoMemory>
-    requires vars { vars.now ≡ vars_of (setting_of trap.now circuit.now placement.now) vars.now.encoding vars.now.steps }
+    requires vars { vars.now
+        ≡ vars_of (setting_of trap.now circuit.now placement.now) vars.now.encoding vars.now.steps }
     requires t { t ≤ vars.now.steps }
-    ensures ok { OnOk result (out.new ≡ out.old ++ goal_of (setting_of trap.now circuit.now placement.now) vars.now.encoding t) }
-    ensures err { OnErr result (AddsPrefix out.old out.new (goal_of (setting_of trap.now circuit.now placement.now) vars.now.encoding t)) }
+    ensures ok { OnOk result (out.new
+        ≡ out.old ++ goal_of (setting_of trap.now circuit.now placement.now) vars.now.encoding t) }
+    ensures err { OnErr result (AddsPrefix out.old out.new
+        (goal_of (setting_of trap.now circuit.now placement.now) vars.now.encoding t)) }
 {
     let ops = rows(alloc, vars.ops())?;
     let mut clauses = Clauses::new(alloc);

@@ -6,7 +6,7 @@ ghost use Rattle.std.specs.Option.{option_map_or};
 ghost use Rattle.step_rules.specs.Placement.{IsPlacement};
 ghost use Rattle.step_vars.specs.Lists.{is_there, is_before};
 ghost use Rattle.step_vars.specs.Encoding.{start_clauses};
-ghost use Rattle.step_clauses.specs.Start.{is_in_place, place_claim, order_claim, undone};
+ghost use Rattle.step_clauses.specs.Start.{is_in_place, place_claim, place_claims, order_claim, undone};
 ghost use Rattle.clause_families.specs.Tables.{AreTables};
 
 use clause_families::{Clauses, Tables, at, done, ord};
@@ -93,7 +93,8 @@ fn add_ions(
     out: &mut Clauses,
 ) -> Result<(), NoMemory>
     requires { count ≡ length config.now.lists }
-    ensures { OnOk result (out.new ≡ out.old ++ flat_map (λ i. map (place_claim config.now.lists i) places.now) ions.now) }
+    ensures { OnOk result (out.new
+        ≡ out.old ++ flat_map (place_claims config.now.lists places.now) ions.now) }
 {
     for ion in ions {
         add_places(config, count, places, *ion, out)?;

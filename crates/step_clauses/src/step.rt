@@ -25,7 +25,10 @@ fn add_transfers(
     out: &mut Clauses,
 ) -> Result<(), NoMemory>
     requires { AreTables setting.now tables.now }
-    ensures { OnOk result (out.new ≡ out.old ++ leaves_from_source setting.now times.before times.time ++ leaves_to_target setting.now times.before times.time ++ leaves_use_channel setting.now times.before times.time) }
+    ensures { OnOk result (out.new ≡ out.old
+        ++ leaves_from_source setting.now times.before times.time
+        ++ leaves_to_target setting.now times.before times.time
+        ++ leaves_use_channel setting.now times.before times.time) }
 {
     add_ions_at_channels(
         IonRule::FromSource,
@@ -91,7 +94,9 @@ fn add_slots(
     out: &mut Clauses,
 ) -> Result<(), NoMemory>
     requires { AreTables setting.now tables.now }
-    ensures { OnOk result (out.new ≡ out.old ++ use_needs_empty_slot setting.now times.before times.time ++ use_empties_slot setting.now times.before times.time) }
+    ensures { OnOk result (out.new ≡ out.old
+        ++ use_needs_empty_slot setting.now times.before times.time
+        ++ use_empties_slot setting.now times.before times.time) }
 {
     let zones = zone_count(setting);
     let into = channels_where(alloc, ChannelTest::IntoSlot(zones), &tables.channels)?;
@@ -142,7 +147,10 @@ fn add_swaps(
     out: &mut Clauses,
 ) -> Result<(), NoMemory>
     requires { AreTables setting.now tables.now }
-    ensures { OnOk result (out.new ≡ out.old ++ swaps_in_zone setting.now times.before times.time ++ swaps_of_neighbours setting.now times.before times.time ++ swaps_turn setting.now times.before times.time) }
+    ensures { OnOk result (out.new ≡ out.old
+        ++ swaps_in_zone setting.now times.before times.time
+        ++ swaps_of_neighbours setting.now times.before times.time
+        ++ swaps_turn setting.now times.before times.time) }
 {
     let ions = &tables.ions;
     let zones = &tables.zones;
