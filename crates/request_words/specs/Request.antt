@@ -82,7 +82,8 @@ with_positive_budget options budget = if nat_le 1 budget then Some (record optio
 
 abbrev pub with_budget : Options → List ℕ → Option Options
 with_budget options value =
-    if is_none options.budget then option_and_then (λ budget. with_positive_budget options budget) (number_of value) else None
+    if is_none options.budget
+    then option_and_then (λ budget. with_positive_budget options budget) (number_of value) else None
 
 abbrev pub with_option : Options → List ℕ → Option Options
 with_option options word =
