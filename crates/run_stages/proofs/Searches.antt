@@ -64,7 +64,7 @@ first_few : (log : Lines) (axioms lines budget : ℕ) → lines ≤ length log.d
 first_few log axioms lines budget within few = omega (arith, first_count log axioms lines within, within, few)
 
 pub fewer_by_fresh : (setting : SettingValue) (steps budget : ℕ) (log : Lines) (axioms lines : ℕ) → RefutesFewer setting steps log axioms lines → length log.derived ≤ budget
-    → RefutesFewerFresh setting steps budget (certificate_text (head_of Counter (asked steps)) axioms (first_lines log axioms lines))
+    → RefutesFewerByFresh setting steps budget (certificate_text (head_of Counter (asked steps)) axioms (first_lines log axioms lines))
 fewer_by_fresh setting zero budget log axioms lines none few =
     ap (λ (all : List Line). certificate_text (head_of Counter Nothing) axioms all) (no_line log axioms lines none.1) ∙ append-nil _
 fewer_by_fresh setting (suc bound) budget log axioms lines has few = record {
