@@ -4,6 +4,9 @@ use qc_base::{End, Name, NoMemory};
 use std::alloc::Global;
 use trap_model::{EndName, JoinPart, Need, SegmentPart, ZonePart};
 
+/// All that a zone may be able to do.
+pub const ALL: [Need; 3] = [Need::One, Need::Two, Need::Read];
+
 /// A zone by its name, how many ions it holds, and what it is able to do.
 pub fn zone(
     alloc: Global,

@@ -16,4 +16,3 @@ pub mod BadLines
 pub mod Follows
 pub mod Bodies
 pub mod Accepted
-pub mod TwoNames
