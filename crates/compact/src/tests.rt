@@ -1,10 +1,6 @@
 //! Tight schedules of short lists.
 
-ghost use Rattle.std.specs.Prelude.{◌≡◌, ℕ, ◌*◌, ◌<◌, ◌≤◌, ◌↔◌, length, IsTrue, All, IfOk, IfSome};
-ghost use Rattle.circuit_core.specs.Op.{IsOp, angles_of};
-ghost use Rattle.circuit_core.specs.Circuit.{nodes_in, all_nodes, qubit_count};
-ghost use Rattle.trap_model.specs.Names.{is_name};
-ghost use Rattle.trap_model.specs.Build.{AreNames};
+ghost use Rattle.std.specs.Prelude.{ℕ, ◌<◌, ◌↔◌, length, IsTrue, All, IfOk};
 ghost use Rattle.step_rules.specs.Placement.{IsPlacement, start_of};
 ghost use Rattle.step_rules.specs.Play.{AreLegal, one_at_a_time};
 ghost use Rattle.compact.specs.Tightened.{AreInOrder};
@@ -12,84 +8,18 @@ ghost use Rattle.compact.specs.Orders.{IsPerformedAt, Precedes};
 ghost use Rattle.circuit_core.specs.Order.{Forced};
 
 use crate::tight::tighten;
-use circuit_core::{Angle, Circuit, Cond, Op, Qubits, Reg, forced};
-use qc_base::{Bit, CregId, End, Name, NoMemory, OpId, PlaceId, Qubit};
+use circuit_core::{Angle, Circuit, Cond, Op, forced};
+use qc_base::{CregId, End, NoMemory, OpId, PlaceId, Qubit};
+use samples::{ALL, barrier, cx, lists_of, measure, turn, zones_at_a_slot};
 use std::alloc::Global;
 use std::process::Abort;
 use std::test::Fail;
-use step_rules::{Action, Config, GivenFault, Placement, Schedule, Setting, enabled};
-use trap_model::{EndName, JoinPart, SegmentPart, Trap, TrapParts, ZonePart};
-
-fn zone(alloc: Global, name: &[u8]) -> Result<ZonePart, NoMemory>
-    requires { IsTrue (is_name name.now) }
-    ensures { IfOk result (λ zone. IsTrue (is_name zone.name)) }
-{
-    Ok(ZonePart {
-        name: Name::from_bytes(alloc, name)?,
-        capacity: 6,
-        one: true,
-        two: true,
-        read: true,
-    })
-}
-
-fn zones(alloc: Global) -> Result<Vec<ZonePart>, NoMemory>
-    ensures { IfOk result (λ zones. All (λ zone. IsTrue (is_name zone.name)) zones.items) }
-{
-    let mut zones = Vec::new(alloc);
-    zones.push(zone(alloc, b"A")?)?;
-    zones.push(zone(alloc, b"B")?)?;
-    Ok(zones)
-}
-
-fn segments(alloc: Global) -> Result<Vec<SegmentPart>, NoMemory>
-    ensures { IfOk result (λ segments. All (λ segment. IsTrue (is_name segment.name)) segments.items) }
-{
-    let mut segments = Vec::new(alloc);
-    segments.push(SegmentPart {
-        name: Name::from_bytes(alloc, b"s")?,
-        slots: 1,
-        load: 1,
-    })?;
-    Ok(segments)
-}
-
-fn junctions(alloc: Global) -> Vec<Name>
-    ensures { AreNames result.items }
-{
-    Vec::new(alloc)
-}
-
-fn end_name(alloc: Global, name: &[u8], end: End) -> Result<EndName, NoMemory> {
-    Ok(EndName {
-        name: Name::from_bytes(alloc, name)?,
-        end: Some(end),
-    })
-}
-
-fn joins(alloc: Global) -> Result<Vec<JoinPart>, NoMemory> {
-    let mut parts = Vec::new(alloc);
-    parts.push(JoinPart {
-        first: end_name(alloc, b"A", End::B)?,
-        second: end_name(alloc, b"s", End::A)?,
-    })?;
-    parts.push(JoinPart {
-        first: end_name(alloc, b"B", End::A)?,
-        second: end_name(alloc, b"s", End::B)?,
-    })?;
-    Ok(parts)
-}
+use step_rules::{Action, Config, Placement, Schedule, Setting, enabled};
+use trap_model::Trap;
 
 // Zones A and B with room for six ions each, and a segment of one slot between them.
 fn two_zones(alloc: Global) -> Result<Trap, Fail> {
-    let parts = TrapParts {
-        zones: zones(alloc)?,
-        segments: segments(alloc)?,
-        junctions: junctions(alloc),
-        joins: joins(alloc)?,
-    };
-    let trap = Trap::build(alloc, parts)?;
-    Ok(trap)
+    zones_at_a_slot(alloc, &[(6, &ALL), (6, &ALL)])
 }
 
 // An operation on eight qubits and eight bits: a gate on a qubit, a gate on a qubit and the next, a barrier on qubits 0
@@ -104,157 +34,43 @@ enum Sort {
     When(u32),
 }
 
-fn turn(qubit: u32, cond: Option<Cond>) -> Op
-    requires qubit { qubit < 8 }
-    requires cond { IfSome cond (λ cond. cond.creg.0 < 1) }
-    ensures op { IsOp 8 8 1 result }
-    ensures nodes { nodes_in (angles_of result) ≡ 3 }
-{
-    Op::U {
-        theta: Angle::Pi,
-        phi: Angle::Pi,
-        lambda: Angle::Pi,
-        qubit: Qubit(qubit),
-        cond,
-    }
-}
-
-fn wall(alloc: Global) -> Result<Op, NoMemory>
-    ensures op { IfOk result (IsOp 8 8 1) }
-    ensures nodes { IfOk result (λ op. nodes_in (angles_of op) ≡ 0) }
-{
-    let qubits = Vec::from_array(alloc, [Qubit(0), Qubit(4)])?;
-    Ok(Op::Barrier {
-        qubits: Qubits::from_vec(qubits),
-    })
-}
-
-fn wall_over_all(alloc: Global) -> Result<Op, NoMemory>
-    ensures op { IfOk result (IsOp 8 8 1) }
-    ensures nodes { IfOk result (λ op. nodes_in (angles_of op) ≡ 0) }
-{
-    let qubits = [
-        Qubit(0),
-        Qubit(1),
-        Qubit(2),
-        Qubit(3),
-        Qubit(4),
-        Qubit(5),
-        Qubit(6),
-        Qubit(7),
-    ];
-    let qubits = Vec::from_array(alloc, qubits)?;
-    Ok(Op::Barrier {
-        qubits: Qubits::from_vec(qubits),
-    })
-}
-
 // The operation of that sort.
-fn op_of(rt: &impl Abort, alloc: Global, sort: Sort) -> Result<Op, NoMemory>
-    ensures op { IfOk result (IsOp 8 8 1) }
-    ensures nodes { IfOk result (λ op. nodes_in (angles_of op) ≤ 3) }
-{
+fn op_of(alloc: Global, sort: Sort) -> Result<Op, NoMemory> {
     match sort {
-        Sort::Turn(qubit) => {
-            assert!(rt; qubit < 8);
-            Ok(turn(qubit, None))
-        }
-        Sort::Pair(qubit) => {
-            assert!(rt; qubit < 7);
-            Ok(Op::Cx {
-                control: Qubit(qubit),
-                target: Qubit(qubit + 1),
-                cond: None,
-            })
-        }
-        Sort::Wall => wall(alloc),
-        Sort::WallOverAll => wall_over_all(alloc),
-        Sort::Read(qubit, bit) => {
-            assert!(rt; qubit < 8 && bit < 8);
-            Ok(Op::Measure {
-                qubit: Qubit(qubit),
-                bit: Bit(bit),
-                cond: None,
-            })
-        }
-        Sort::When(qubit) => {
-            assert!(rt; qubit < 8);
-            let cond = Cond {
+        Sort::Turn(qubit) => Ok(turn(qubit)),
+        Sort::Pair(qubit) => Ok(cx(qubit, qubit.saturating_add(1))),
+        Sort::Wall => barrier(alloc, &[0, 4]),
+        Sort::WallOverAll => barrier(alloc, &[0, 1, 2, 3, 4, 5, 6, 7]),
+        Sort::Read(qubit, bit) => Ok(measure(qubit, bit)),
+        Sort::When(qubit) => Ok(Op::U {
+            theta: Angle::Pi,
+            phi: Angle::Pi,
+            lambda: Angle::Pi,
+            qubit: Qubit(qubit),
+            cond: Some(Cond {
                 creg: CregId(0),
                 value: 1,
-            };
-            Ok(turn(qubit, Some(cond)))
-        }
+            }),
+        }),
     }
 }
 
-fn ops_of(rt: &impl Abort, alloc: Global, sorts: &[Sort]) -> Result<Vec<Op>, NoMemory>
-    ensures ops { IfOk result (λ ops. All (IsOp 8 8 1) ops.items) }
-    ensures nodes { IfOk result (λ ops. all_nodes ops.items ≤ 3 * length ops.items) }
-{
+// Eight qubits and a register of eight bits, and operations of these sorts on them.
+fn circuit_of(alloc: Global, sorts: &[Sort]) -> Result<Circuit, Fail> {
     let mut ops = Vec::new(alloc);
     for sort in sorts {
-        ops.push(op_of(rt, alloc, *sort)?)?;
+        ops.push(op_of(alloc, *sort)?)?;
     }
-    Ok(ops)
-}
-
-// A circuit of operations of these sorts.
-fn circuit_of(rt: &impl Abort, alloc: Global, sorts: &[Sort]) -> Result<Circuit, NoMemory>
-    ensures { IfOk result (λ circuit. qubit_count circuit ≡ 8) }
-{
-    let ops = ops_of(rt, alloc, sorts)?;
-    assert!(rt; ops.len() <= 20);
-    circuit_on(alloc, ops)
-}
-
-// Eight qubits and a register of eight bits, and these operations on them.
-fn circuit_on(alloc: Global, ops: Vec<Op>) -> Result<Circuit, NoMemory>
-    requires ops { All (IsOp 8 8 1) ops.items }
-    requires few { length ops.items ≤ 20 }
-    requires nodes { all_nodes ops.items ≤ 60 }
-    ensures { IfOk result (λ circuit. qubit_count circuit ≡ 8) }
-{
-    let qubits = Reg {
-        name: Name::from_bytes(alloc, b"q")?,
-        size: 8,
-    };
-    let bits = Reg {
-        name: Name::from_bytes(alloc, b"c")?,
-        size: 8,
-    };
-    let qregs = Vec::from_array(alloc, [qubits])?;
-    let cregs = Vec::from_array(alloc, [bits])?;
-    Ok(Circuit::new(qregs, cregs, ops))
-}
-
-fn are_below(qubits: &[Qubit], count: u32) -> bool
-    ensures { IsTrue result → All (λ qubit. qubit.0 < count) qubits.now }
-{
-    qubits.iter().all(|qubit| qubit.0 < count)
+    samples::circuit_of(alloc, 8, 8, ops)
 }
 
 // Qubits 0 to 3 in zone A, 4 to 7 in zone B.
-fn placed(
-    rt: &impl Abort,
-    alloc: Global,
-    trap: &Trap,
-    circuit: &Circuit,
-) -> Result<Placement, GivenFault>
+fn placed(alloc: Global, trap: &Trap, circuit: &Circuit) -> Result<Placement, Fail>
     ensures { IfOk result (IsPlacement trap.now circuit.now) }
 {
-    let low = [Qubit(0), Qubit(1), Qubit(2), Qubit(3)];
-    let high = [Qubit(4), Qubit(5), Qubit(6), Qubit(7)];
-    let first = Qubits::from_vec(Vec::from_slice(alloc, &low)?);
-    let second = Qubits::from_vec(Vec::from_slice(alloc, &high)?);
-    assert!(rt; trap.zones().len() == 2);
-    let count = circuit.qubits();
-    assert!(rt; are_below(first.items(), count));
-    assert!(rt; are_below(second.items(), count));
-    let mut lists = Vec::new(alloc);
-    lists.push(first)?;
-    lists.push(second)?;
-    Placement::new(alloc, trap, circuit, lists)
+    let lists = lists_of(alloc, trap, circuit, &[&[0, 1, 2, 3], &[4, 5, 6, 7]])?;
+    let placement = Placement::new(alloc, trap, circuit, lists)?;
+    Ok(placement)
 }
 
 // Whether each action passes its guards after those before it.
@@ -369,8 +185,8 @@ fn tightens(
     steps: &[&[Action]],
 ) -> Result<(), Fail> {
     let trap = two_zones(alloc)?;
-    let circuit = circuit_of(rt, alloc, sorts)?;
-    let placement = placed(rt, alloc, &trap, &circuit)?;
+    let circuit = circuit_of(alloc, sorts)?;
+    let placement = placed(alloc, &trap, &circuit)?;
     let setting = Setting {
         trap: &trap,
         circuit: &circuit,

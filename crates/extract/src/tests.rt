@@ -1,19 +1,16 @@
 //! Schedules that are read back from the values that they fix.
 
-ghost use Rattle.std.specs.Prelude.{◌≡◌, ◌<◌, ◌≤◌, ◌+◌, ◌++◌, IsTrue, All, length, IfOk, OnOk};
+ghost use Rattle.std.specs.Prelude.{◌≡◌, ◌≤◌, ◌+◌, ◌++◌, IsTrue, length, IfOk, OnOk};
 ghost use Rattle.sat_base.specs.Valuation.{valuation_of};
-ghost use Rattle.circuit_core.specs.Circuit.{qubit_count};
-ghost use Rattle.trap_model.specs.Names.{is_name as is_name_of};
-ghost use Rattle.trap_model.specs.Trap.{lists, names_of};
-ghost use Rattle.trap_model.specs.Build.{AreNames};
 ghost use Rattle.step_rules.specs.Placement.{IsPlacement};
 ghost use Rattle.step_vars.specs.Numbering.{before};
 ghost use Rattle.step_vars.specs.Encoding.{IsSmall, vars_of, part_of, encoding_of};
 ghost use Rattle.step_models.specs.Models.{IsModel};
 
 use crate::schedule::schedule_of;
-use circuit_core::{Circuit, Op, Qubits, Reg};
-use qc_base::{End, Ion, Name, NoMemory, OpId, PlaceId, Qubit};
+use circuit_core::Circuit;
+use qc_base::{End, Ion, NoMemory, OpId, PlaceId};
+use samples::{circuit_of, cx, lists_of, zones_apart, zones_at_a_slot};
 use sat_base::{Assignment, Formula};
 use std::alloc::Global;
 use std::process::Abort;
@@ -22,192 +19,29 @@ use step_clauses::{goal, layer};
 use step_models::parts_name_their_variables;
 use step_rules::{Action, Placement, Schedule, Setting};
 use step_vars::{Claim, Encoding, Item, Vars};
-use trap_model::{EndName, JoinPart, SegmentPart, Trap, TrapParts, ZonePart, is_name};
-
-fn zones_named(zones: &[ZonePart]) -> bool
-    ensures { IsTrue result → All (λ zone. IsTrue (is_name_of zone.name)) zones.now }
-{
-    for zone in zones {
-        if !is_name(zone.name.bytes()) {
-            return false;
-        }
-    }
-    true
-}
-
-fn segments_named(segments: &[SegmentPart]) -> bool
-    ensures { IsTrue result → All (λ segment. IsTrue (is_name_of segment.name)) segments.now }
-{
-    for segment in segments {
-        if !is_name(segment.name.bytes()) {
-            return false;
-        }
-    }
-    true
-}
-
-fn junctions_named(junctions: &[Name]) -> bool
-    ensures { IsTrue result → AreNames junctions.now }
-{
-    for junction in junctions {
-        if !is_name(junction.bytes()) {
-            return false;
-        }
-    }
-    true
-}
-
-fn are_named(parts: &TrapParts) -> bool
-    ensures { IsTrue result → AreNames (names_of (lists parts.now)) }
-{
-    if !zones_named(parts.zones.as_slice()) {
-        return false;
-    }
-    if !segments_named(parts.segments.as_slice()) {
-        return false;
-    }
-    junctions_named(parts.junctions.as_slice())
-}
-
-fn zone(alloc: Global, name: &[u8], two: bool) -> Result<ZonePart, NoMemory> {
-    Ok(ZonePart {
-        name: Name::from_bytes(alloc, name)?,
-        capacity: 4,
-        one: false,
-        two,
-        read: false,
-    })
-}
-
-fn end_name(alloc: Global, name: &[u8], end: End) -> Result<EndName, NoMemory> {
-    Ok(EndName {
-        name: Name::from_bytes(alloc, name)?,
-        end: Some(end),
-    })
-}
-
-fn join(alloc: Global, zone: (&[u8], End), slot: End) -> Result<JoinPart, NoMemory> {
-    Ok(JoinPart {
-        first: end_name(alloc, zone.0, zone.1)?,
-        second: end_name(alloc, b"s", slot)?,
-    })
-}
+use trap_model::{Need, Trap};
 
 // Zones A and B of capacity 4, of which A performs operations on two qubits, joined by one slot of load 1.
-fn two_zones(rt: &impl Abort, alloc: Global) -> Result<Trap, Fail> {
-    let first = zone(alloc, b"A", true)?;
-    let second = zone(alloc, b"B", false)?;
-    let segment = SegmentPart {
-        name: Name::from_bytes(alloc, b"s")?,
-        slots: 1,
-        load: 1,
-    };
-    let out = join(alloc, (b"A", End::B), End::A)?;
-    let back = join(alloc, (b"B", End::A), End::B)?;
-    let parts = TrapParts {
-        zones: Vec::from_array(alloc, [first, second])?,
-        segments: Vec::from_array(alloc, [segment])?,
-        junctions: Vec::new(alloc),
-        joins: Vec::from_array(alloc, [out, back])?,
-    };
-    assert!(rt; are_named(&parts));
-    let trap = Trap::build(alloc, parts)?;
-    Ok(trap)
-}
-
-// Zone A alone.
-fn one_zone(rt: &impl Abort, alloc: Global) -> Result<Trap, Fail> {
-    let parts = TrapParts {
-        zones: Vec::from_array(alloc, [zone(alloc, b"A", true)?])?,
-        segments: Vec::new(alloc),
-        junctions: Vec::new(alloc),
-        joins: Vec::new(alloc),
-    };
-    assert!(rt; are_named(&parts));
-    let trap = Trap::build(alloc, parts)?;
-    Ok(trap)
+fn two_zones(alloc: Global) -> Result<Trap, Fail> {
+    zones_at_a_slot(alloc, &[(4, &[Need::Two]), (4, &[])])
 }
 
 // Four qubits and a CX of two of them.
-fn pair_of_four(alloc: Global) -> Result<Circuit, NoMemory>
-    ensures { IfOk result (λ circuit. qubit_count circuit ≡ 4) }
-{
-    let meeting = Op::Cx {
-        control: Qubit(1),
-        target: Qubit(2),
-        cond: None,
-    };
-    let ops = Vec::from_array(alloc, [meeting])?;
-    let name = Name::from_bytes(alloc, b"q")?;
-    let qregs = Vec::from_array(alloc, [Reg { name, size: 4 }])?;
-    Ok(Circuit::new(qregs, Vec::new(alloc), ops))
+fn pair_of_four(alloc: Global) -> Result<Circuit, Fail> {
+    circuit_of(alloc, 4, 0, Vec::from_array(alloc, [cx(1, 2)])?)
 }
 
-// Two qubits and their CX.
-fn pair(alloc: Global) -> Result<Circuit, NoMemory>
-    ensures { IfOk result (λ circuit. qubit_count circuit ≡ 2) }
-{
-    let meeting = Op::Cx {
-        control: Qubit(0),
-        target: Qubit(1),
-        cond: None,
-    };
-    let ops = Vec::from_array(alloc, [meeting])?;
-    let name = Name::from_bytes(alloc, b"q")?;
-    let qregs = Vec::from_array(alloc, [Reg { name, size: 2 }])?;
-    Ok(Circuit::new(qregs, Vec::new(alloc), ops))
-}
-
-// Two qubits in each of two zones.
-fn two_in_each(
-    rt: &impl Abort,
+// The qubits of these numbers, a list for each zone.
+fn placed(
     alloc: Global,
     trap: &Trap,
     circuit: &Circuit,
-) -> Result<Placement, Fail>
-    requires { qubit_count circuit.now ≡ 4 }
-    ensures { IfOk result (IsPlacement trap.now circuit.now) }
-{
-    let first = Vec::from_array(alloc, [Qubit(0), Qubit(1)])?;
-    let second = Vec::from_array(alloc, [Qubit(2), Qubit(3)])?;
-    let lists = [Qubits::from_vec(first), Qubits::from_vec(second)];
-    assert!(rt; trap.zones().len() == 2);
-    let placement = Placement::new(alloc, trap, circuit, Vec::from_array(alloc, lists)?)?;
-    Ok(placement)
-}
-
-// Two qubits in one zone.
-fn two_in_one(
-    rt: &impl Abort,
-    alloc: Global,
-    trap: &Trap,
-    circuit: &Circuit,
-) -> Result<Placement, Fail>
-    requires { qubit_count circuit.now ≡ 2 }
-    ensures { IfOk result (IsPlacement trap.now circuit.now) }
-{
-    let qubits = Vec::from_array(alloc, [Qubit(0), Qubit(1)])?;
-    let lists = [Qubits::from_vec(qubits)];
-    assert!(rt; trap.zones().len() == 1);
-    let placement = Placement::new(alloc, trap, circuit, Vec::from_array(alloc, lists)?)?;
-    Ok(placement)
-}
-
-// No qubit in two zones.
-fn none_in_each(
-    rt: &impl Abort,
-    alloc: Global,
-    trap: &Trap,
-    circuit: &Circuit,
+    zones: &[&[u32]],
 ) -> Result<Placement, Fail>
     ensures { IfOk result (IsPlacement trap.now circuit.now) }
 {
-    let lists = [
-        Qubits::from_vec(Vec::new(alloc)),
-        Qubits::from_vec(Vec::new(alloc)),
-    ];
-    assert!(rt; trap.zones().len() == 2);
-    let placement = Placement::new(alloc, trap, circuit, Vec::from_array(alloc, lists)?)?;
+    let lists = lists_of(alloc, trap, circuit, zones)?;
+    let placement = Placement::new(alloc, trap, circuit, lists)?;
     Ok(placement)
 }
 
@@ -441,9 +275,9 @@ fn meeting() -> [Item; 25] {
 #[test]
 fn four_qubits_across_two_zones(rt: HostRuntime) -> Result<(), Fail> {
     let alloc = rt.alloc();
-    let trap = two_zones(&rt, alloc)?;
+    let trap = two_zones(alloc)?;
     let circuit = pair_of_four(alloc)?;
-    let placement = two_in_each(&rt, alloc, &trap, &circuit)?;
+    let placement = placed(alloc, &trap, &circuit, &[&[0, 1], &[2, 3]])?;
     let setting = Setting {
         trap: &trap,
         circuit: &circuit,
@@ -479,9 +313,9 @@ fn counts(
 #[test]
 fn clauses_of_two_zones(rt: HostRuntime) -> Result<(), Fail> {
     let alloc = rt.alloc();
-    let trap = two_zones(&rt, alloc)?;
+    let trap = two_zones(alloc)?;
     let circuit = pair_of_four(alloc)?;
-    let placement = two_in_each(&rt, alloc, &trap, &circuit)?;
+    let placement = placed(alloc, &trap, &circuit, &[&[0, 1], &[2, 3]])?;
     let setting = Setting {
         trap: &trap,
         circuit: &circuit,
@@ -495,9 +329,9 @@ fn clauses_of_two_zones(rt: HostRuntime) -> Result<(), Fail> {
 #[test]
 fn two_qubits_in_one_zone(rt: HostRuntime) -> Result<(), Fail> {
     let alloc = rt.alloc();
-    let trap = one_zone(&rt, alloc)?;
-    let circuit = pair(alloc)?;
-    let placement = two_in_one(&rt, alloc, &trap, &circuit)?;
+    let trap = zones_apart(alloc, &[(4, &[Need::Two])])?;
+    let circuit = circuit_of(alloc, 2, 0, Vec::from_array(alloc, [cx(0, 1)])?)?;
+    let placement = placed(alloc, &trap, &circuit, &[&[0, 1]])?;
     let setting = Setting {
         trap: &trap,
         circuit: &circuit,
@@ -524,9 +358,9 @@ fn two_qubits_in_one_zone(rt: HostRuntime) -> Result<(), Fail> {
 #[test]
 fn no_qubit(rt: HostRuntime) -> Result<(), Fail> {
     let alloc = rt.alloc();
-    let trap = two_zones(&rt, alloc)?;
+    let trap = two_zones(alloc)?;
     let circuit = Circuit::new(Vec::new(alloc), Vec::new(alloc), Vec::new(alloc));
-    let placement = none_in_each(&rt, alloc, &trap, &circuit)?;
+    let placement = placed(alloc, &trap, &circuit, &[&[], &[]])?;
     let setting = Setting {
         trap: &trap,
         circuit: &circuit,

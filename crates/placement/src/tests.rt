@@ -1,89 +1,31 @@
 //! Placements of two zones by each rule, and why there is none.
 
-ghost use Rattle.std.specs.Prelude.{◌≡◌, ◌≤◌, length, IsTrue, All, IfOk};
-ghost use Rattle.circuit_core.specs.Op.{IsOp};
-ghost use Rattle.circuit_core.specs.Circuit.{all_nodes, qubit_count};
-ghost use Rattle.trap_model.specs.Names.{is_name};
+ghost use Rattle.std.specs.Prelude.{◌≡◌, length, IfOk};
 
 use crate::fault::PlaceFault;
 use crate::placing::place;
 use crate::rule::PlaceRule;
-use circuit_core::{Circuit, Op, Qubits, Reg};
+use circuit_core::{Circuit, Qubits};
 use qc_base::{Name, NoMemory, PlaceId, Qubit};
+use samples::{ALL, cx, reset, zones_apart};
 use std::alloc::Global;
 use std::process::Abort;
 use std::test::Fail;
 use step_rules::{GivenFault, Placement};
-use trap_model::{GivenLabels, Labels, Trap, TrapParts, ZonePart};
-
-fn zone(alloc: Global, name: &[u8]) -> Result<ZonePart, NoMemory>
-    requires { IsTrue (is_name name.now) }
-    ensures { IfOk result (λ zone. IsTrue (is_name zone.name)) }
-{
-    Ok(ZonePart {
-        name: Name::from_bytes(alloc, name)?,
-        capacity: 4,
-        one: true,
-        two: true,
-        read: true,
-    })
-}
-
-fn zones(alloc: Global) -> Result<Vec<ZonePart>, NoMemory>
-    ensures { IfOk result (λ zones. All (λ zone. IsTrue (is_name zone.name)) zones.items) }
-{
-    let mut zones = Vec::new(alloc);
-    zones.push(zone(alloc, b"A")?)?;
-    zones.push(zone(alloc, b"B")?)?;
-    Ok(zones)
-}
+use trap_model::{GivenLabels, Labels, Trap};
 
 // Zones A and B of capacity 4.
 fn two_zones(alloc: Global) -> Result<Trap, Fail> {
-    let parts = TrapParts {
-        zones: zones(alloc)?,
-        segments: Vec::new(alloc),
-        junctions: Vec::new(alloc),
-        joins: Vec::new(alloc),
-    };
-    let trap = Trap::build(alloc, parts)?;
-    Ok(trap)
+    zones_apart(alloc, &[(4, &ALL), (4, &ALL)])
 }
 
-// So many qubits, and these operations on them.
-fn circuit_on(alloc: Global, qubits: u32, ops: Vec<Op>) -> Result<Circuit, NoMemory>
-    requires some { 1 ≤ qubits }
-    requires few_qubits { qubits ≤ 8 }
-    requires ops { All (IsOp qubits 0 0) ops.items }
-    requires few { length ops.items ≤ 10 }
-    requires nodes { all_nodes ops.items ≡ 0 }
-    ensures { IfOk result (λ circuit. qubit_count circuit ≡ qubits) }
-{
-    let name = Name::from_bytes(alloc, b"q")?;
-    let qregs = Vec::from_array(alloc, [Reg { name, size: qubits }])?;
-    Ok(Circuit::new(qregs, Vec::new(alloc), ops))
-}
-
-fn circuit_of(alloc: Global, qubits: u32) -> Result<Circuit, NoMemory>
-    requires some { 1 ≤ qubits }
-    requires few { qubits ≤ 8 }
-{
-    circuit_on(alloc, qubits, Vec::new(alloc))
+fn circuit_of(alloc: Global, qubits: u32) -> Result<Circuit, Fail> {
+    samples::circuit_of(alloc, qubits, 0, Vec::new(alloc))
 }
 
 // Four qubits: a reset of the first, and CX from the last to the second.
-fn crossed(alloc: Global) -> Result<Circuit, NoMemory> {
-    let reset = Op::Reset {
-        qubit: Qubit(0),
-        cond: None,
-    };
-    let meeting = Op::Cx {
-        control: Qubit(3),
-        target: Qubit(1),
-        cond: None,
-    };
-    let ops = Vec::from_array(alloc, [reset, meeting])?;
-    circuit_on(alloc, 4, ops)
+fn crossed(alloc: Global) -> Result<Circuit, Fail> {
+    samples::circuit_of(alloc, 4, 0, Vec::from_array(alloc, [reset(0), cx(3, 1)])?)
 }
 
 fn reads(qubits: &Qubits, numbers: &[u32]) -> bool {
@@ -126,10 +68,7 @@ fn given(
     alloc: Global,
     qubits: u32,
     zones: (&[u8], &[u8]),
-) -> Result<Option<PlaceFault>, Fail>
-    requires some { 1 ≤ qubits }
-    requires few { qubits ≤ 8 }
-{
+) -> Result<Option<PlaceFault>, Fail> {
     let trap = two_zones(alloc)?;
     let circuit = circuit_of(alloc, qubits)?;
     let table = table(alloc, zones.0, zones.1)?;

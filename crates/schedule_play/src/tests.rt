@@ -1,204 +1,69 @@
 //! Schedules that play, and the first fault of those that don't.
 
-ghost use Rattle.std.specs.Prelude.{◌≡◌, ◌≢◌, ◌<◌, ◌≤◌, length, IsTrue, All, IfOk};
-ghost use Rattle.circuit_core.specs.Op.{IsOp, angles_of};
-ghost use Rattle.circuit_core.specs.Circuit.{nodes_in, all_nodes, qubit_count};
-ghost use Rattle.trap_model.specs.Names.{is_name};
-ghost use Rattle.trap_model.specs.Build.{AreNames};
+ghost use Rattle.std.specs.Prelude.{IfOk};
 ghost use Rattle.step_rules.specs.Placement.{IsPlacement};
 ghost use Rattle.step_rules.specs.Config.{IsConfigOf};
 
 use crate::fault::PlayFault;
 use crate::simulator::play;
-use circuit_core::{Angle, Circuit, Op, Qubits, Reg};
-use qc_base::{End, Ion, JunctionId, Name, NoMemory, OpId, PlaceId, Qubit};
+use circuit_core::Circuit;
+use qc_base::{End, Ion, JunctionId, Name, NoMemory, OpId, PlaceId};
+use samples::{barrier, cx, join, lists_of, segment, trap_of, turn, zones_at_a_junction, zones_of};
 use std::alloc::Global;
 use std::process::Abort;
 use std::test::Fail;
-use step_rules::{Action, Config, GivenFault, Placement, Rule, Schedule};
-use trap_model::{EndName, JoinPart, SegmentPart, Trap, TrapParts, ZonePart};
+use step_rules::{Action, Config, Placement, Rule, Schedule};
+use trap_model::{Need, Trap, TrapParts};
 
-fn zone(alloc: Global, name: &[u8]) -> Result<ZonePart, NoMemory>
-    requires { IsTrue (is_name name.now) }
-    ensures { IfOk result (λ zone. IsTrue (is_name zone.name)) }
-{
-    Ok(ZonePart {
-        name: Name::from_bytes(alloc, name)?,
-        capacity: 3,
-        one: true,
-        two: true,
-        read: false,
-    })
-}
+const ABLE: [Need; 2] = [Need::One, Need::Two];
 
-fn zones(alloc: Global) -> Result<Vec<ZonePart>, NoMemory>
-    ensures { IfOk result (λ zones. All (λ zone. IsTrue (is_name zone.name)) zones.items) }
-{
-    let mut zones = Vec::new(alloc);
-    zones.push(zone(alloc, b"A")?)?;
-    zones.push(zone(alloc, b"B")?)?;
-    Ok(zones)
-}
-
-fn segment(alloc: Global, name: &[u8], slots: u32, load: u32) -> Result<SegmentPart, NoMemory>
-    requires { IsTrue (is_name name.now) }
-    ensures { IfOk result (λ segment. IsTrue (is_name segment.name)) }
-{
-    Ok(SegmentPart {
-        name: Name::from_bytes(alloc, name)?,
-        slots,
-        load,
-    })
-}
-
-fn junctions(alloc: Global) -> Result<Vec<Name>, NoMemory>
-    ensures { IfOk result (λ junctions. AreNames junctions.items) }
-{
-    let mut junctions = Vec::new(alloc);
-    junctions.push(Name::from_bytes(alloc, b"J")?)?;
-    Ok(junctions)
-}
-
-fn end_name(alloc: Global, name: &[u8], end: Option<End>) -> Result<EndName, NoMemory> {
-    Ok(EndName {
-        name: Name::from_bytes(alloc, name)?,
-        end,
-    })
-}
-
-// The end of a zone or a segment, and the end of a segment or a junction.
-type Join<'a> = ((&'a [u8], End), (&'a [u8], Option<End>));
-
-fn joins_of(alloc: Global, joins: &[Join<'_>]) -> Result<Vec<JoinPart>, NoMemory> {
-    let mut parts = Vec::new(alloc);
-    for (first, second) in joins {
-        parts.push(JoinPart {
-            first: end_name(alloc, first.0, Some(first.1))?,
-            second: end_name(alloc, second.0, second.1)?,
-        })?;
-    }
-    Ok(parts)
-}
-
-// Zones A and B with room for three ions each, junction J, and these segments and joins.
-fn trap_of(alloc: Global, segments: Vec<SegmentPart>, joins: &[Join<'_>]) -> Result<Trap, Fail>
-    requires { All (λ segment. IsTrue (is_name segment.name)) segments.items }
-{
-    let parts = TrapParts {
-        zones: zones(alloc)?,
-        segments,
-        junctions: junctions(alloc)?,
-        joins: joins_of(alloc, joins)?,
-    };
-    let trap = Trap::build(alloc, parts)?;
-    Ok(trap)
-}
-
-// Zone A by segment s to junction J, and from there by t.0, with room for two ions, to zone B.
+// Zone A by segment s to junction J, and from there by t.0, with room for two ions, to zone B. Each has room for three.
 fn line(alloc: Global, slots: u32, load: u32) -> Result<Trap, Fail> {
-    let mut segments = Vec::new(alloc);
-    segments.push(segment(alloc, b"s", slots, load)?)?;
-    segments.push(segment(alloc, b"t", 1, 2)?)?;
-    let joins: [Join<'_>; 4] = [
-        ((b"A", End::B), (b"s", Some(End::A))),
-        ((b"s", End::B), (b"J", None)),
-        ((b"t", End::A), (b"J", None)),
-        ((b"B", End::A), (b"t", Some(End::B))),
+    let segments = [
+        segment(alloc, b"s", slots, load)?,
+        segment(alloc, b"t", 1, 2)?,
     ];
-    trap_of(alloc, segments, &joins)
+    zones_at_a_junction(alloc, &[(3, &ABLE), (3, &ABLE)], End::A, segments)
 }
 
 // Junction J with four arms: by s.0 from zone A, by t.0 from zone B, and u.0 and v.0.
 fn star(alloc: Global) -> Result<Trap, Fail> {
     let mut segments = Vec::new(alloc);
-    segments.push(segment(alloc, b"s", 1, 2)?)?;
-    segments.push(segment(alloc, b"t", 1, 2)?)?;
-    segments.push(segment(alloc, b"u", 1, 2)?)?;
-    segments.push(segment(alloc, b"v", 1, 2)?)?;
-    let joins: [Join<'_>; 6] = [
-        ((b"A", End::B), (b"s", Some(End::A))),
-        ((b"B", End::B), (b"t", Some(End::A))),
-        ((b"s", End::B), (b"J", None)),
-        ((b"t", End::B), (b"J", None)),
-        ((b"u", End::A), (b"J", None)),
-        ((b"v", End::A), (b"J", None)),
-    ];
-    trap_of(alloc, segments, &joins)
-}
-
-// CX on two of four qubits.
-fn cx(control: u32, target: u32) -> Op
-    requires control { control < 4 }
-    requires target { target < 4 }
-    requires other { control ≢ target }
-    ensures op { IsOp 4 0 0 result }
-    ensures nodes { nodes_in (angles_of result) ≡ 0 }
-{
-    Op::Cx {
-        control: Qubit(control),
-        target: Qubit(target),
-        cond: None,
+    for name in [b"s", b"t", b"u", b"v"] {
+        segments.push(segment(alloc, name, 1, 2)?)?;
     }
+    let mut joins = Vec::new(alloc);
+    joins.push(join(alloc, (b"A", End::B), (b"s", Some(End::A)))?)?;
+    joins.push(join(alloc, (b"B", End::B), (b"t", Some(End::A)))?)?;
+    joins.push(join(alloc, (b"s", End::B), (b"J", None))?)?;
+    joins.push(join(alloc, (b"t", End::B), (b"J", None))?)?;
+    joins.push(join(alloc, (b"u", End::A), (b"J", None))?)?;
+    joins.push(join(alloc, (b"v", End::A), (b"J", None))?)?;
+    let parts = TrapParts {
+        zones: zones_of(alloc, &[(3, &ABLE), (3, &ABLE)])?,
+        segments,
+        junctions: Vec::from_array(alloc, [Name::from_bytes(alloc, b"J")?])?,
+        joins,
+    };
+    trap_of(alloc, parts)
 }
 
-// The operations on these pairs of four qubits.
-fn ops_of(rt: &impl Abort, alloc: Global, pairs: &[(u32, u32)]) -> Result<Vec<Op>, NoMemory>
-    ensures ops { IfOk result (λ ops. All (IsOp 4 0 0) ops.items) }
-    ensures nodes { IfOk result (λ ops. all_nodes ops.items ≡ 0) }
-{
+// Four qubits, and CX on these pairs of them.
+fn circuit_of(alloc: Global, pairs: &[(u32, u32)]) -> Result<Circuit, Fail> {
     let mut ops = Vec::new(alloc);
     for (control, target) in pairs {
-        assert!(rt; *control < 4 && *target < 4 && *control != *target);
         ops.push(cx(*control, *target))?;
     }
-    Ok(ops)
-}
-
-// Four qubits, and these operations on them.
-fn circuit_on(alloc: Global, ops: Vec<Op>) -> Result<Circuit, NoMemory>
-    requires ops { All (IsOp 4 0 0) ops.items }
-    requires few { length ops.items ≤ 10 }
-    requires nodes { all_nodes ops.items ≤ 6 }
-    ensures { IfOk result (λ circuit. qubit_count circuit ≡ 4) }
-{
-    let name = Name::from_bytes(alloc, b"q")?;
-    let qregs = Vec::from_array(alloc, [Reg { name, size: 4 }])?;
-    Ok(Circuit::new(qregs, Vec::new(alloc), ops))
-}
-
-fn circuit_of(rt: &impl Abort, alloc: Global, pairs: &[(u32, u32)]) -> Result<Circuit, NoMemory>
-    ensures { IfOk result (λ circuit. qubit_count circuit ≡ 4) }
-{
-    let ops = ops_of(rt, alloc, pairs)?;
-    assert!(rt; ops.len() <= 10);
-    circuit_on(alloc, ops)
-}
-
-fn are_below(qubits: &[Qubit], count: u32) -> bool
-    ensures { IsTrue result → All (λ qubit. qubit.0 < count) qubits.now }
-{
-    qubits.iter().all(|qubit| qubit.0 < count)
+    samples::circuit_of(alloc, 4, 0, ops)
 }
 
 // Qubits 0 and 1 in zone A, 2 and 3 in zone B.
-fn placed(
-    rt: &impl Abort,
-    alloc: Global,
-    trap: &Trap,
-    circuit: &Circuit,
-) -> Result<Placement, GivenFault>
+fn placed(alloc: Global, trap: &Trap, circuit: &Circuit) -> Result<Placement, Fail>
     ensures { IfOk result (IsPlacement trap.now circuit.now) }
 {
-    let first = Qubits::from_vec(Vec::from_slice(alloc, &[Qubit(0), Qubit(1)])?);
-    let second = Qubits::from_vec(Vec::from_slice(alloc, &[Qubit(2), Qubit(3)])?);
-    assert!(rt; trap.zones().len() == 2);
-    let count = circuit.qubits();
-    assert!(rt; are_below(first.items(), count));
-    assert!(rt; are_below(second.items(), count));
-    let mut lists = Vec::new(alloc);
-    lists.push(first)?;
-    lists.push(second)?;
-    Placement::new(alloc, trap, circuit, lists)
+    let lists = lists_of(alloc, trap, circuit, &[&[0, 1], &[2, 3]])?;
+    let placement = Placement::new(alloc, trap, circuit, lists)?;
+    Ok(placement)
 }
 
 // Adds the actions to the last step.
@@ -277,8 +142,8 @@ fn stops(
     steps: &[&[Action]],
     fault: PlayFault,
 ) -> Result<(), Fail> {
-    let circuit = circuit_of(rt, alloc, pairs)?;
-    let placement = placed(rt, alloc, trap, &circuit)?;
+    let circuit = circuit_of(alloc, pairs)?;
+    let placement = placed(alloc, trap, &circuit)?;
     let schedule = schedule_of(rt, alloc, steps)?;
     let found = play(alloc, trap, &circuit, &placement, &schedule).err();
     assert!(rt; found == Some(fault), "{found:?}");
@@ -308,8 +173,8 @@ fn plays(
     steps: &[&[Action]],
     places: &[&[u32]],
 ) -> Result<(), Fail> {
-    let circuit = circuit_of(rt, alloc, pairs)?;
-    let placement = placed(rt, alloc, trap, &circuit)?;
+    let circuit = circuit_of(alloc, pairs)?;
+    let placement = placed(alloc, trap, &circuit)?;
     let schedule = schedule_of(rt, alloc, steps)?;
     let config = play(alloc, trap, &circuit, &placement, &schedule)?;
     compare(rt, trap, &config, places);
@@ -417,43 +282,12 @@ fn operations_out_of_order(rt: HostRuntime) -> Result<(), Fail> {
     stops(&rt, alloc, &trap, &pairs, &missing, fault)
 }
 
-// A gate on one of four qubits.
-fn rotation(qubit: u32) -> Op
-    requires { qubit < 4 }
-    ensures op { IsOp 4 0 0 result }
-    ensures nodes { nodes_in (angles_of result) ≡ 3 }
-{
-    Op::U {
-        theta: Angle::Pi,
-        phi: Angle::Pi,
-        lambda: Angle::Pi,
-        qubit: Qubit(qubit),
-        cond: None,
-    }
-}
-
-// A barrier on two of four qubits.
-fn barrier(alloc: Global, first: u32, second: u32) -> Result<Op, NoMemory>
-    requires first { first < 4 }
-    requires second { second < 4 }
-    requires other { first ≢ second }
-    ensures op { IfOk result (IsOp 4 0 0) }
-    ensures nodes { IfOk result (λ op. nodes_in (angles_of op) ≡ 0) }
-{
-    let qubits = Vec::from_array(alloc, [Qubit(first), Qubit(second)])?;
-    Ok(Op::Barrier {
-        qubits: Qubits::from_vec(qubits),
-    })
-}
-
 // A gate on qubit 0, two barriers that lead from there to qubit 2, and a gate on it.
-fn barriers(alloc: Global) -> Result<Circuit, NoMemory>
-    ensures { IfOk result (λ circuit. qubit_count circuit ≡ 4) }
-{
-    let first = barrier(alloc, 0, 1)?;
-    let second = barrier(alloc, 1, 2)?;
-    let ops = Vec::from_array(alloc, [rotation(0), first, second, rotation(2)])?;
-    circuit_on(alloc, ops)
+fn barriers(alloc: Global) -> Result<Circuit, Fail> {
+    let first = barrier(alloc, &[0, 1])?;
+    let second = barrier(alloc, &[1, 2])?;
+    let ops = Vec::from_array(alloc, [turn(0), first, second, turn(2)])?;
+    samples::circuit_of(alloc, 4, 0, ops)
 }
 
 // Plays the steps from the circuit with barriers.
@@ -464,7 +298,7 @@ fn answer(
     steps: &[&[Action]],
 ) -> Result<Option<PlayFault>, Fail> {
     let circuit = barriers(alloc)?;
-    let placement = placed(rt, alloc, trap, &circuit)?;
+    let placement = placed(alloc, trap, &circuit)?;
     let schedule = schedule_of(rt, alloc, steps)?;
     Ok(play(alloc, trap, &circuit, &placement, &schedule).err())
 }

@@ -1,58 +1,11 @@
 //! What is said of a schedule that brings an ion from one zone to another.
 
-ghost use Rattle.std.specs.Prelude.{◌≡◌, IsTrue, All, IfOk};
-ghost use Rattle.circuit_core.specs.Circuit.{qubit_count};
-ghost use Rattle.trap_model.specs.Names.{is_name};
-
 use crate::{Counts, counts, least_line, legal_line, load_lines, report};
-use circuit_core::{Circuit, Qubits, Reg};
-use qc_base::{End, Name, NoMemory, OpId, PlaceId, Qubit};
+use qc_base::{End, NoMemory, OpId, PlaceId};
+use samples::{ALL, circuit_of, lists_of, zones_apart};
 use std::alloc::Global;
 use std::test::Fail;
 use step_rules::{Action, Placement, Schedule, Setting};
-use trap_model::{Trap, TrapParts, ZonePart};
-
-fn zone(alloc: Global, name: &[u8]) -> Result<ZonePart, NoMemory>
-    requires { IsTrue (is_name name.now) }
-    ensures { IfOk result (λ zone. IsTrue (is_name zone.name)) }
-{
-    Ok(ZonePart {
-        name: Name::from_bytes(alloc, name)?,
-        capacity: 4,
-        one: true,
-        two: true,
-        read: true,
-    })
-}
-
-fn zones(alloc: Global) -> Result<Vec<ZonePart>, NoMemory>
-    ensures { IfOk result (λ zones. All (λ zone. IsTrue (is_name zone.name)) zones.items) }
-{
-    let mut zones = Vec::new(alloc);
-    zones.push(zone(alloc, b"A")?)?;
-    zones.push(zone(alloc, b"B")?)?;
-    Ok(zones)
-}
-
-// Zones A and B.
-fn two_zones(alloc: Global) -> Result<Trap, Fail> {
-    let parts = TrapParts {
-        zones: zones(alloc)?,
-        segments: Vec::new(alloc),
-        junctions: Vec::new(alloc),
-        joins: Vec::new(alloc),
-    };
-    let trap = Trap::build(alloc, parts)?;
-    Ok(trap)
-}
-
-fn one_qubit(alloc: Global) -> Result<Circuit, NoMemory>
-    ensures { IfOk result (λ circuit. qubit_count circuit ≡ 1) }
-{
-    let name = Name::from_bytes(alloc, b"q")?;
-    let qregs = Vec::from_array(alloc, [Reg { name, size: 1 }])?;
-    Ok(Circuit::new(qregs, Vec::new(alloc), Vec::new(alloc)))
-}
 
 // An ion of zone B comes into zone A, where an operation is performed.
 fn three_steps(alloc: Global) -> Result<Schedule, NoMemory> {
@@ -80,12 +33,9 @@ fn three_steps(alloc: Global) -> Result<Schedule, NoMemory> {
 #[test]
 fn report_of_two_zones(rt: HostRuntime) -> Result<(), Fail> {
     let alloc = rt.alloc();
-    let trap = two_zones(alloc)?;
-    let circuit = one_qubit(alloc)?;
-    let first = Qubits::from_vec(Vec::from_array(alloc, [Qubit(0)])?);
-    let second = Qubits::from_vec(Vec::new(alloc));
-    let lists = Vec::from_array(alloc, [first, second])?;
-    assert!(rt; trap.zones().len() == 2);
+    let trap = zones_apart(alloc, &[(4, &ALL), (4, &ALL)])?;
+    let circuit = circuit_of(alloc, 1, 0, Vec::new(alloc))?;
+    let lists = lists_of(alloc, &trap, &circuit, &[&[0], &[]])?;
     let placement = Placement::new(alloc, &trap, &circuit, lists)?;
     let setting = Setting {
         trap: &trap,

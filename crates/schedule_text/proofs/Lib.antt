@@ -16,7 +16,6 @@ pub mod BadLines
 pub mod Follows
 pub mod Bodies
 pub mod Accepted
-pub mod TwoNames
 pub mod WeightSums
 pub mod TextSizes
 pub mod StepActions

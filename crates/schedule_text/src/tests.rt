@@ -1,125 +1,30 @@
 //! A text with every kind of line, and the first bad lines of others.
 
-ghost use Rattle.std.specs.Prelude.{◌≡◌, ◌≤◌, ◌<◌, ◌∷◌, [], length, IsTrue, All, IfOk};
-ghost use Rattle.circuit_core.specs.Circuit.{all_nodes};
-ghost use Rattle.circuit_core.specs.Op.{IsOp};
-ghost use Rattle.trap_model.specs.Names.{is_name};
-ghost use Rattle.trap_model.specs.Build.{AreNames};
-
 use crate::{TextFault, print, read};
-use circuit_core::{Angle, Angles, Circuit, Cond, Op, Qubits, Reg};
+use circuit_core::{Angle, Angles, Circuit, Cond, Op};
 use qc_base::{Bit, CregId, End, JunctionId, Name, NoMemory, OpId, PlaceId, Qubit};
+use samples::{barrier, cx, lists_of, reset, segment, zones_at_a_junction};
 use std::alloc::Global;
 use std::process::Abort;
 use std::test::Fail;
-use step_rules::{Action, GivenFault, Placement, Schedule};
-use trap_model::{EndName, JoinPart, SegmentPart, Trap, TrapParts, ZonePart};
-
-fn zone(alloc: Global, name: &[u8]) -> Result<ZonePart, NoMemory>
-    requires { IsTrue (is_name name.now) }
-    ensures { IfOk result (λ zone. IsTrue (is_name zone.name)) }
-{
-    Ok(ZonePart {
-        name: Name::from_bytes(alloc, name)?,
-        capacity: 4,
-        one: false,
-        two: true,
-        read: false,
-    })
-}
-
-fn zones(alloc: Global) -> Result<Vec<ZonePart>, NoMemory>
-    ensures { IfOk result (λ zones. All (λ zone. IsTrue (is_name zone.name)) zones.items) }
-{
-    let mut zones = Vec::new(alloc);
-    zones.push(zone(alloc, b"A")?)?;
-    zones.push(zone(alloc, b"B")?)?;
-    Ok(zones)
-}
-
-fn segment(alloc: Global, name: &[u8]) -> Result<SegmentPart, NoMemory>
-    requires { IsTrue (is_name name.now) }
-    ensures { IfOk result (λ segment. IsTrue (is_name segment.name)) }
-{
-    Ok(SegmentPart {
-        name: Name::from_bytes(alloc, name)?,
-        slots: 2,
-        load: 2,
-    })
-}
-
-fn segments(alloc: Global) -> Result<Vec<SegmentPart>, NoMemory>
-    ensures { IfOk result (λ segments. All (λ segment. IsTrue (is_name segment.name)) segments.items) }
-{
-    let mut segments = Vec::new(alloc);
-    segments.push(segment(alloc, b"s")?)?;
-    segments.push(segment(alloc, b"t")?)?;
-    Ok(segments)
-}
-
-fn junctions(alloc: Global) -> Result<Vec<Name>, NoMemory>
-    ensures { IfOk result (λ junctions. AreNames junctions.items) }
-{
-    let mut junctions = Vec::new(alloc);
-    junctions.push(Name::from_bytes(alloc, b"J")?)?;
-    Ok(junctions)
-}
-
-fn end_name(alloc: Global, name: &[u8], end: Option<End>) -> Result<EndName, NoMemory> {
-    Ok(EndName {
-        name: Name::from_bytes(alloc, name)?,
-        end,
-    })
-}
-
-fn join(
-    alloc: Global,
-    first: (&[u8], End),
-    second: (&[u8], Option<End>),
-) -> Result<JoinPart, NoMemory> {
-    Ok(JoinPart {
-        first: end_name(alloc, first.0, Some(first.1))?,
-        second: end_name(alloc, second.0, second.1)?,
-    })
-}
+use step_rules::{Action, Placement, Schedule};
+use trap_model::{Need, Trap};
 
 /// Zone A by segment s to junction J, and from there by segment t to zone B. The slots are s.0, s.1, t.0 and t.1.
 fn trap_of(alloc: Global) -> Result<Trap, Fail> {
-    let mut joins = Vec::new(alloc);
-    joins.push(join(alloc, (b"A", End::B), (b"s", Some(End::A)))?)?;
-    joins.push(join(alloc, (b"s", End::B), (b"J", None))?)?;
-    joins.push(join(alloc, (b"t", End::A), (b"J", None))?)?;
-    joins.push(join(alloc, (b"B", End::A), (b"t", Some(End::B)))?)?;
-    let parts = TrapParts {
-        zones: zones(alloc)?,
-        segments: segments(alloc)?,
-        junctions: junctions(alloc)?,
-        joins,
-    };
-    let trap = Trap::build(alloc, parts)?;
-    Ok(trap)
+    let segments = [segment(alloc, b"s", 2, 2)?, segment(alloc, b"t", 2, 2)?];
+    zones_at_a_junction(
+        alloc,
+        &[(4, &[Need::Two]), (4, &[Need::Two])],
+        End::A,
+        segments,
+    )
 }
 
 /// So many qubits, and two operations.
-fn circuit_of(alloc: Global, qubits: u32) -> Result<Circuit, NoMemory>
-    requires some { 3 ≤ qubits }
-    requires few { qubits ≤ 9 }
-{
-    let mut ops = Vec::new(alloc);
-    ops.push(Op::Cx {
-        control: Qubit(0),
-        target: Qubit(1),
-        cond: None,
-    })?;
-    ops.push(Op::Cx {
-        control: Qubit(2),
-        target: Qubit(0),
-        cond: None,
-    })?;
-    let name = Name::from_bytes(alloc, b"q")?;
-    let mut qregs = Vec::new(alloc);
-    qregs.push(Reg { name, size: qubits })?;
-    Ok(Circuit::new(qregs, Vec::new(alloc), ops))
+fn circuit_of(alloc: Global, qubits: u32) -> Result<Circuit, Fail> {
+    let ops = Vec::from_array(alloc, [cx(0, 1), cx(2, 0)])?;
+    samples::circuit_of(alloc, qubits, 0, ops)
 }
 
 const IF_THREE: Option<Cond> = Some(Cond {
@@ -127,10 +32,8 @@ const IF_THREE: Option<Cond> = Some(Cond {
     value: 3,
 });
 
-/// The gate U, and a gate that is known by its name alone.
-fn gates(alloc: Global) -> Result<(Op, Op), NoMemory>
-    ensures { IfOk result (λ ops. IsOp 3 2 1 ops.0 × IsOp 3 2 1 ops.1 × (all_nodes (ops.0 ∷ ops.1 ∷ []) ≤ 4)) }
-{
+/// An operation of each kind, some with a condition.
+fn circuit_of_all_kinds(alloc: Global) -> Result<Circuit, Fail> {
     let rotation = Op::U {
         theta: Angle::Pi,
         phi: Angle::Int(0),
@@ -138,98 +41,33 @@ fn gates(alloc: Global) -> Result<(Op, Op), NoMemory>
         qubit: Qubit(0),
         cond: None,
     };
-    let mut params = Vec::new(alloc);
-    params.push(Angle::Int(2))?;
     let opaque = Op::Opaque {
         name: Name::from_bytes(alloc, b"g")?,
-        params: Angles::from_vec(params),
+        params: Angles::from_vec(Vec::from_array(alloc, [Angle::Int(2)])?),
         first: Qubit(0),
         second: Some(Qubit(2)),
         cond: IF_THREE,
     };
-    Ok((rotation, opaque))
-}
-
-/// The operations that have no angles.
-fn plain_ops(alloc: Global) -> Result<(Op, Op, Op, Op), NoMemory>
-    ensures ops { IfOk result (λ ops. IsOp 3 2 1 ops.0 × IsOp 3 2 1 ops.1 × IsOp 3 2 1 ops.2 × IsOp 3 2 1 ops.3) }
-    ensures nodes { IfOk result (λ ops. all_nodes (ops.0 ∷ ops.1 ∷ ops.2 ∷ ops.3 ∷ []) ≡ 0) }
-{
-    let cx = Op::Cx {
+    let meeting = Op::Cx {
         control: Qubit(0),
         target: Qubit(1),
         cond: IF_THREE,
     };
-    let measure = Op::Measure {
+    let reading = Op::Measure {
         qubit: Qubit(1),
         bit: Bit(1),
         cond: IF_THREE,
     };
-    let reset = Op::Reset {
-        qubit: Qubit(2),
-        cond: None,
-    };
-    let mut qubits = Vec::new(alloc);
-    qubits.push(Qubit(0))?;
-    qubits.push(Qubit(2))?;
-    let barrier = Op::Barrier {
-        qubits: Qubits::from_vec(qubits),
-    };
-    Ok((cx, measure, reset, barrier))
-}
-
-/// An operation of each kind, some with a condition.
-fn ops_of_all_kinds(alloc: Global) -> Result<Vec<Op>, NoMemory>
-    ensures ops { IfOk result (λ ops. All (IsOp 3 2 1) ops.items) }
-    ensures few { IfOk result (λ ops. length ops.items ≤ 6) }
-    ensures nodes { IfOk result (λ ops. all_nodes ops.items ≤ 4) }
-{
-    let (rotation, opaque) = gates(alloc)?;
-    let (cx, measure, reset, barrier) = plain_ops(alloc)?;
-    let ops = Vec::from_array(alloc, [rotation, opaque, cx, measure, reset, barrier])?;
-    Ok(ops)
-}
-
-#[tactic(auto, using(crate::proofs::TwoNames::two_names))]
-fn circuit_of_all_kinds(alloc: Global) -> Result<Circuit, NoMemory> {
-    let ops = ops_of_all_kinds(alloc)?;
-    let mut qregs = Vec::new(alloc);
-    qregs.push(Reg {
-        name: Name::from_bytes(alloc, b"q")?,
-        size: 3,
-    })?;
-    let mut cregs = Vec::new(alloc);
-    cregs.push(Reg {
-        name: Name::from_bytes(alloc, b"c")?,
-        size: 2,
-    })?;
-    Ok(Circuit::new(qregs, cregs, ops))
-}
-
-fn are_below(qubits: &[Qubit], count: u32) -> bool
-    ensures { IsTrue result → All (λ qubit. qubit.0 < count) qubits.now }
-{
-    qubits.iter().all(|qubit| qubit.0 < count)
+    let both = barrier(alloc, &[0, 2])?;
+    let ops = [rotation, opaque, meeting, reading, reset(2), both];
+    samples::circuit_of(alloc, 3, 2, Vec::from_array(alloc, ops)?)
 }
 
 /// A placement of two lists.
-fn place(
-    rt: &impl Abort,
-    alloc: Global,
-    trap: &Trap,
-    circuit: &Circuit,
-    zones: (&[Qubit], &[Qubit]),
-) -> Result<Placement, GivenFault> {
-    let first = Qubits::from_vec(Vec::from_slice(alloc, zones.0)?);
-    let second = Qubits::from_vec(Vec::from_slice(alloc, zones.1)?);
-    assert!(rt; trap.zones().len() == 2);
-    let count = circuit.qubits();
-    assert!(rt; are_below(first.items(), count));
-    assert!(rt; are_below(second.items(), count));
-    let mut lists = Vec::new(alloc);
-    lists.push(first)?;
-    lists.push(second)?;
-    Placement::new(alloc, trap, circuit, lists)
+fn place(alloc: Global, trap: &Trap, circuit: &Circuit) -> Result<Placement, Fail> {
+    let lists = lists_of(alloc, trap, circuit, &[&[2, 0], &[1]])?;
+    let placement = Placement::new(alloc, trap, circuit, lists)?;
+    Ok(placement)
 }
 
 fn is_placed(placement: &Placement, zones: (&[Qubit], &[Qubit])) -> bool {
@@ -348,7 +186,7 @@ fn every_kind_of_line_is_printed_and_read(rt: HostRuntime) -> Result<(), Fail> {
     let alloc = rt.alloc();
     let trap = trap_of(alloc)?;
     let circuit = circuit_of(alloc, 3)?;
-    let placement = place(&rt, alloc, &trap, &circuit, (&IN_A, &IN_B))?;
+    let placement = place(alloc, &trap, &circuit)?;
     let steps: [&[Action]; 4] = [&FIRST, &SECOND, &[], &LAST];
     let schedule = schedule_of(&rt, alloc, &steps)?;
     let text = text_with(alloc, 0, b"")?;
@@ -386,7 +224,7 @@ fn operations_of_all_kinds_are_printed_and_read(rt: HostRuntime) -> Result<(), F
     let alloc = rt.alloc();
     let trap = trap_of(alloc)?;
     let circuit = circuit_of_all_kinds(alloc)?;
-    let placement = place(&rt, alloc, &trap, &circuit, (&IN_A, &IN_B))?;
+    let placement = place(alloc, &trap, &circuit)?;
     let actions = [0, 1, 2, 3, 4, 5].map(op_in_a);
     let steps: [&[Action]; 1] = [&actions];
     let schedule = schedule_of(&rt, alloc, &steps)?;
