@@ -1,21 +1,17 @@
 //! Answers with their statuses and lines, and lines of all kinds of pieces.
 
-ghost use Rattle.std.specs.Prelude.{IsTrue, All, IfOk};
-ghost use Rattle.trap_model.specs.Names.{is_name};
-ghost use Rattle.trap_model.specs.Build.{AreNames};
-
 use crate::{Answer, File, Large, Line, Names};
-use circuit_core::{Circuit, Reg};
 use derivation_check::CertFault;
 use placement::PlaceFault;
 use qasm_read::QasmFault;
 use qc_base::{MemSink, Name, NoMemory, OpId, PlaceId, Qubit};
+use samples::{ALL, circuit_of, zones_apart};
 use schedule_play::PlayFault;
 use std::alloc::Global;
 use std::process::Abort;
 use std::test::Fail;
 use step_rules::{GivenFault, Rule};
-use trap_model::{Counted, SegmentPart, Trap, TrapFault, TrapParts, ZonePart};
+use trap_model::{Counted, TrapFault};
 use trap_read::{KeyAt, Section, TrapText};
 
 /// Whether the line is this text.
@@ -308,53 +304,6 @@ fn parts_of_a_trap(rt: HostRuntime) -> Result<(), Fail> {
     says_of_trap(&rt, alloc, fault, b"qccd: trap: join 3 taken\n")
 }
 
-fn zones(alloc: Global) -> Result<Vec<ZonePart>, NoMemory>
-    ensures { IfOk result (λ zones. All (λ zone. IsTrue (is_name zone.name)) zones.items) }
-{
-    let zone = ZonePart {
-        name: Name::from_bytes(alloc, b"A")?,
-        capacity: 4,
-        one: true,
-        two: true,
-        read: true,
-    };
-    let mut zones = Vec::new(alloc);
-    zones.push(zone)?;
-    Ok(zones)
-}
-
-fn no_segments(alloc: Global) -> Vec<SegmentPart>
-    ensures { All (λ segment. IsTrue (is_name segment.name)) result.items }
-{
-    Vec::new(alloc)
-}
-
-fn no_junctions(alloc: Global) -> Vec<Name>
-    ensures { AreNames result.items }
-{
-    Vec::new(alloc)
-}
-
-/// One zone, which is named A.
-fn one_zone(alloc: Global) -> Result<Trap, Fail> {
-    let parts = TrapParts {
-        zones: zones(alloc)?,
-        segments: no_segments(alloc),
-        junctions: no_junctions(alloc),
-        joins: Vec::new(alloc),
-    };
-    let trap = Trap::build(alloc, parts)?;
-    Ok(trap)
-}
-
-/// Three qubits, in one register.
-fn three_qubits(alloc: Global) -> Result<Circuit, NoMemory> {
-    let name = Name::from_bytes(alloc, b"q")?;
-    let mut qregs = Vec::new(alloc);
-    qregs.push(Reg { name, size: 3 })?;
-    Ok(Circuit::new(qregs, Vec::new(alloc), Vec::new(alloc)))
-}
-
 /// Whether the answer to a placement has this line.
 fn says_of_placement(
     rt: &impl Abort,
@@ -362,8 +311,8 @@ fn says_of_placement(
     fault: PlaceFault,
     text: &[u8],
 ) -> Result<(), Fail> {
-    let trap = one_zone(alloc)?;
-    let circuit = three_qubits(alloc)?;
+    let trap = zones_apart(alloc, &[(4, &ALL)])?;
+    let circuit = circuit_of(alloc, 3, 0, Vec::new(alloc))?;
     let names = Names {
         circuit: Some(&circuit),
         trap: Some(&trap),

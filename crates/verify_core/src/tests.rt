@@ -1,98 +1,25 @@
 //! Texts of schedules and certificates, and how they are judged.
 
-ghost use Rattle.std.specs.Prelude.{IsTrue, All, IfOk};
-ghost use Rattle.trap_model.specs.Names.{is_name};
-ghost use Rattle.trap_model.specs.Build.{AreNames};
-
 use crate::{CheckFault, VerifyFault, check, one_judgement, one_verification, verify};
-use circuit_core::{Circuit, Op, Reg};
+use circuit_core::Circuit;
 use derivation_check::CertFault;
-use qc_base::{MemShelf, Name, NoMemory, OpId, Qubit};
+use qc_base::{MemShelf, NoMemory, OpId};
+use samples::{ALL, circuit_of, cx, zones_apart};
 use schedule_play::PlayFault;
 use std::alloc::Global;
 use std::process::Abort;
 use std::test::Fail;
 use step_rules::Rule;
-use trap_model::{SegmentPart, Trap, TrapParts, ZonePart};
-
-fn zones(alloc: Global) -> Result<Vec<ZonePart>, NoMemory>
-    ensures { IfOk result (λ zones. All (λ zone. IsTrue (is_name zone.name)) zones.items) }
-{
-    let zone = ZonePart {
-        name: Name::from_bytes(alloc, b"A")?,
-        capacity: 3,
-        one: true,
-        two: true,
-        read: true,
-    };
-    let mut zones = Vec::new(alloc);
-    zones.push(zone)?;
-    Ok(zones)
-}
-
-fn no_segments(alloc: Global) -> Vec<SegmentPart>
-    ensures { All (λ segment. IsTrue (is_name segment.name)) result.items }
-{
-    Vec::new(alloc)
-}
-
-fn no_junctions(alloc: Global) -> Vec<Name>
-    ensures { AreNames result.items }
-{
-    Vec::new(alloc)
-}
+use trap_model::Trap;
 
 /// One zone with room for three ions.
 fn one_zone(alloc: Global) -> Result<Trap, Fail> {
-    let parts = TrapParts {
-        zones: zones(alloc)?,
-        segments: no_segments(alloc),
-        junctions: no_junctions(alloc),
-        joins: Vec::new(alloc),
-    };
-    let trap = Trap::build(alloc, parts)?;
-    Ok(trap)
+    zones_apart(alloc, &[(3, &ALL)])
 }
 
 /// Two operations on a pair of qubits, of which the first has to come before the second.
-fn ordered(alloc: Global) -> Result<Circuit, NoMemory> {
-    let mut ops = Vec::new(alloc);
-    ops.push(Op::Cx {
-        control: Qubit(0),
-        target: Qubit(1),
-        cond: None,
-    })?;
-    ops.push(Op::Cx {
-        control: Qubit(1),
-        target: Qubit(0),
-        cond: None,
-    })?;
-    let name = Name::from_bytes(alloc, b"q")?;
-    let mut qregs = Vec::new(alloc);
-    qregs.push(Reg { name, size: 2 })?;
-    Ok(Circuit::new(qregs, Vec::new(alloc), ops))
-}
-
-/// One operation on a pair of qubits.
-fn single(alloc: Global) -> Result<Circuit, NoMemory> {
-    let mut ops = Vec::new(alloc);
-    ops.push(Op::Cx {
-        control: Qubit(0),
-        target: Qubit(1),
-        cond: None,
-    })?;
-    let name = Name::from_bytes(alloc, b"q")?;
-    let mut qregs = Vec::new(alloc);
-    qregs.push(Reg { name, size: 2 })?;
-    Ok(Circuit::new(qregs, Vec::new(alloc), ops))
-}
-
-/// A pair of qubits and no operation.
-fn idle(alloc: Global) -> Result<Circuit, NoMemory> {
-    let name = Name::from_bytes(alloc, b"q")?;
-    let mut qregs = Vec::new(alloc);
-    qregs.push(Reg { name, size: 2 })?;
-    Ok(Circuit::new(qregs, Vec::new(alloc), Vec::new(alloc)))
+fn ordered(alloc: Global) -> Result<Circuit, Fail> {
+    circuit_of(alloc, 2, 0, Vec::from_array(alloc, [cx(0, 1), cx(1, 0)])?)
 }
 
 /// A text with this body.
@@ -191,7 +118,7 @@ fn verified(
 #[test]
 fn one_operation_takes_a_step(rt: HostRuntime) -> Result<(), Fail> {
     let alloc = rt.alloc();
-    let circuit = single(alloc)?;
+    let circuit = circuit_of(alloc, 2, 0, Vec::from_array(alloc, [cx(0, 1)])?)?;
     let body = b"steps 1\nstep 1\nop A 0 ions 0 1 : CX q[0],q[1];\nend\n";
     let rows: [(&[u8], Result<u32, VerifyFault>); 5] = [
         (b"encoding 1\nrefutes 0\n6 -5 0 5 4 0\n", Ok(1)),
@@ -224,7 +151,7 @@ fn one_operation_takes_a_step(rt: HostRuntime) -> Result<(), Fail> {
 #[test]
 fn no_operation_takes_no_step(rt: HostRuntime) -> Result<(), Fail> {
     let alloc = rt.alloc();
-    let circuit = idle(alloc)?;
+    let circuit = circuit_of(alloc, 2, 0, Vec::new(alloc))?;
     let rows: [(&[u8], Result<u32, VerifyFault>); 2] = [
         (b"encoding 2\nrefutes nothing\n", Ok(0)),
         (
