@@ -1,4 +1,4 @@
--- Working notions of private functions: lists of what the families run over.
+-- The lists that the families run over.
 use Rattle.std.specs.Prelude.{◌≡◌}
 use Rattle.trap_model.specs.Build.{IsTrap}
 use Rattle.trap_model.specs.Channels.{channels_of, AreWithin}

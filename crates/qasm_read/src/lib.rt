@@ -31,7 +31,6 @@ pub use file::read;
 pub use laws::{one_answer, one_reading, one_statement_begins};
 pub use names::Names;
 pub use qop::Qop;
-pub use reader::read_program;
 pub use statement::{Placed, Program, Statement};
 
 #[cfg(test)]

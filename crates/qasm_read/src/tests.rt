@@ -1,4 +1,5 @@
-use super::{Program, QasmFault, Statement, read_program};
+use crate::reader::read_program;
+use crate::{Program, QasmFault, Statement};
 use qasm_tokens::{Keyword, PlacedToken, Sign, Token, TokenSource};
 use qc_base::{Name, NoMemory};
 use std::alloc::Global;

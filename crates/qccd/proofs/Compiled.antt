@@ -14,15 +14,16 @@ use Rattle.step_rules.specs.Setting.{SettingValue, setting_of}
 use Rattle.schedule_text.specs.Text.{action_line}
 use Rattle.placement.specs.declared.rule.PlaceRule.{PlaceRule}
 use Rattle.request_words.specs.Request.{Asked, Search, compile, request_of, put_of}
+use Rattle.run_answers.specs.declared.answer.Answer.{Answer}
 use Rattle.run_answers.specs.declared.answer.Answer.TheVariants as answers
 use Rattle.run_stages.specs.declared.ending.Ending.{Ending}
-use Rattle.run_stages.specs.Exact.{IsLeastWritten}
+use Rattle.run_stages.specs.Exact.{IsLeastWritten, IsNoneFound, IsBudgetSpent}
 use Rattle.run_stages.specs.Work.{Work, fewest, Ends, EndsSearch, IsTightTextOf}
 use Rattle.run_stages.specs.Stages.{Is}
 use Rattle.run_stages.specs.Found.{Found, put_name}
 use Rattle.run_stages.specs.Prepare.{Routed, within_search}
-use Rattle.qccd.specs.Run.{Devices, Writes, Holds}
-use Rattle.qccd.specs.Headline.{line_with_ions, Compiled}
+use Rattle.qccd.specs.Run.{Devices, Writes, Puts, Holds}
+use Rattle.qccd.specs.Headline.{line_with_ions, Compiled, Searched, FoundNone, SpentBudget}
 use Rattle.qccd.proofs.Went.{asked_for, placed_by, routed_work, sought_work}
 
 named : (trap : TrapValue) (circuit : CircuitValue) (placement : List (List Qubit)) (zone : PlaceId) (number : OpId) (op : Op) → slice_get circuit.ops number.0 ≡ Some op
@@ -90,3 +91,68 @@ compiled found words circuit trap rule (Some exact) before now request writes =
       fewest = record { least = least.least; within = least.within; cert = least.put; certifies = least.certifies; fresh = least.fresh; holds = holds };
       taken = subst (λ (text : List ℕ). Took before.out.taken now.out.taken text) least.text_is writes.whole.taken;
     }
+
+-- ---- a search that finds no schedule
+
+none_is_ok : (most : ℕ) → answers.NoneWithin most ≢ answers.Ok
+none_is_ok most e = cc
+
+none_is_spent : (most budget : ℕ) → answers.NoneWithin most ≢ answers.Budget budget
+none_is_spent most budget e = cc
+
+same_most : (most max : ℕ) → ◌≡◌ {A = Answer} (answers.NoneWithin most) (answers.NoneWithin max) → most ≡ max
+same_most most max e = cc
+
+spent_is_ok : (spent : ℕ) → answers.Budget spent ≢ answers.Ok
+spent_is_ok spent e = cc
+
+spent_is_none : (spent max : ℕ) → answers.Budget spent ≢ answers.NoneWithin max
+spent_is_none spent max e = cc
+
+same_spent : (spent budget : ℕ) → ◌≡◌ {A = Answer} (answers.Budget spent) (answers.Budget budget) → spent ≡ budget
+same_spent spent budget e = cc
+
+found_none : (setting : SettingValue) (max budget most : ℕ) (ending : Ending) → EndsSearch setting max budget (answers.NoneWithin most) ending → (most ≡ max) × IsNoneFound setting max budget ending
+found_none setting max budget most ending (inl least) = absurd (none_is_ok most least.0)
+found_none setting max budget most ending (inr (inl none)) = (same_most most max none.0, none.1)
+found_none setting max budget most ending (inr (inr spent)) = absurd (none_is_spent most budget spent.0)
+
+budget_spent : (setting : SettingValue) (max budget spent : ℕ) (ending : Ending) → EndsSearch setting max budget (answers.Budget spent) ending → (spent ≡ budget) × IsBudgetSpent setting max budget ending
+budget_spent setting max budget spent ending (inl least) = absurd (spent_is_ok spent least.0)
+budget_spent setting max budget spent ending (inr (inl none)) = absurd (spent_is_none spent max none.0)
+budget_spent setting max budget spent ending (inr (inr it)) = (same_spent spent budget it.0, it.1)
+
+searched : (found : Found) (words : List (List ℕ)) (circuit trap : List ℕ) (rule : PlaceRule) (exact : Search) (answer : Answer) (before now : Devices) (ends : SettingValue → Ending → Type 0)
+    → request_of words ≡ Some (compile circuit trap rule (Some exact)) → ((setting : SettingValue) (ending : Ending) → EndsSearch setting exact.max exact.budget answer ending → ends setting ending)
+    → Puts found words answer before now → Searched found rule exact before now ends
+searched found words circuit trap rule exact answer before now ends request gives puts =
+    let work = puts.done.work in
+    let plan = placed_by found rule (λ setting. Is (within_search setting exact)) work (asked_for found words (compile circuit trap rule (Some exact)) work request puts.done.is) in
+    let setting = setting_of plan.trap plan.circuit plan.placement in
+    let ended : EndsSearch setting exact.max exact.budget answer puts.ending =
+    subst (λ (w : Work). Ends w answer puts.ending) (sought_work setting exact work plan.continues).1 puts.done.ends in
+    record {
+      circuit = plan.circuit;
+      circuit_is = plan.circuit_is;
+      trap = plan.trap;
+      labels = plan.labels;
+      trap_is = plan.trap_is;
+      placement = plan.placement;
+      placement_is = plan.placement_is;
+      ending = puts.ending;
+      is = gives setting puts.ending ended;
+      holds = subst (λ (name : Option (List ℕ)). Holds before.shelf now.shelf name puts.ending.put) (put_under words circuit trap rule exact request) puts.put.holds;
+      out = puts.put.out;
+    }
+
+pub none_refuted : (found : Found) (words : List (List ℕ)) (circuit trap : List ℕ) (rule : PlaceRule) (exact : Search) (most : ℕ) (before now : Devices)
+    → request_of words ≡ Some (compile circuit trap rule (Some exact)) → Puts found words (answers.NoneWithin most) before now → FoundNone found rule exact most before now
+none_refuted found words circuit trap rule exact most before now request =
+    searched found words circuit trap rule exact (answers.NoneWithin most) before now (λ setting ending. (most ≡ exact.max) × IsNoneFound setting exact.max exact.budget ending) request
+    (λ setting ending. found_none setting exact.max exact.budget most ending)
+
+pub left_open : (found : Found) (words : List (List ℕ)) (circuit trap : List ℕ) (rule : PlaceRule) (exact : Search) (spent : ℕ) (before now : Devices)
+    → request_of words ≡ Some (compile circuit trap rule (Some exact)) → Puts found words (answers.Budget spent) before now → SpentBudget found rule exact spent before now
+left_open found words circuit trap rule exact spent before now request =
+    searched found words circuit trap rule exact (answers.Budget spent) before now (λ setting ending. (spent ≡ exact.budget) × IsBudgetSpent setting exact.max exact.budget ending) request
+    (λ setting ending. budget_spent setting exact.max exact.budget spent ending)

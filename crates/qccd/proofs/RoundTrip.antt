@@ -33,20 +33,21 @@ use Rattle.placement.proofs.Placed.{placed as rule_gives_placement}
 use Rattle.verify_core.specs.declared.judge.Checked.{Checked}
 use Rattle.verify_core.specs.Judging.{Judges}
 use Rattle.request_words.specs.declared.file.File.TheVariants as files
-use Rattle.request_words.specs.Request.{Asked, compile, check, report, request_of}
+use Rattle.request_words.specs.Request.{Asked, Search, compile, check, report, request_of}
 use Rattle.run_answers.specs.declared.answer.Answer.{Answer}
 use Rattle.run_answers.specs.declared.answer.Answer.TheVariants as answers
 use Rattle.run_stages.specs.declared.inputs.Inputs.{Inputs}
-use Rattle.run_stages.specs.Work.{Work, judged, reported, Ends, IsTightTextOf}
+use Rattle.run_stages.specs.Work.{Work, judged, reported, Ends, EndsSearch, IsTightTextOf}
 use Rattle.run_stages.specs.Stages.{Is, Then}
 use Rattle.run_stages.specs.Found.{Found}
-use Rattle.run_stages.specs.Prepare.{bytes_of, or_refuse, CircuitOf, TrapOf, inputs_of, InputsOf, Routed, JudgedIn, JudgedOf, JudgedFor, Comes, Prepares}
+use Rattle.run_stages.specs.Prepare.{bytes_of, or_refuse, CircuitOf, TrapOf, inputs_of, InputsOf, Routed, within_search, JudgedIn, JudgedOf, JudgedFor, Comes, Prepares}
 use Rattle.qccd.specs.Run.{Devices, Writes}
 use Rattle.qccd.specs.RoundTrip.{IsFoundAgain, IsAccepted}
 use Rattle.run_stages.proofs.Refusals.{labels_fit}
 use Rattle.qccd.proofs.Known.{spelled}
 use Rattle.run_stages.proofs.Stages.{then_ok}
-use Rattle.qccd.proofs.Went.{PlacedBy, went, asked_for, placed_by, routed_work}
+use Rattle.qccd.proofs.Went.{PlacedBy, went, asked_for, placed_by, routed_work, sought_work}
+use Rattle.qccd.proofs.Compiled.{least_written}
 
 -- ---- the circuit and the trap are right
 
@@ -143,36 +144,51 @@ judged_for work found setting steps text again =
 abbrev IsCaseOf : WorkOf → Asked → Type 0
 IsCaseOf work asked = (found : Found) (outcome : Result Work Answer) → JudgedFor work found outcome → Comes found asked outcome
 
--- the text of a compilation stands as the schedule, and circuit and trap as before
-judged_again : (work : WorkOf) (asked : Asked) (found later : Found) (words check_words : List (List ℕ)) (circuit trap : List ℕ) (rule : PlaceRule) (before now : Devices) → IsCaseOf work asked
-    → request_of words ≡ Some (compile circuit trap rule None) → request_of check_words ≡ Some asked
+-- the text of steps that play stands as the schedule, and circuit and trap as before
+judged_by : (work : WorkOf) (asked : Asked) (found later : Found) (check_words : List (List ℕ)) (rule : PlaceRule) (next : SettingValue → Result Work Answer → Type 0) (done : Work) (plan : PlacedBy found rule next done) (steps : List (List Action)) (text : List ℕ)
+    → IsCaseOf work asked → request_of check_words ≡ Some asked → Plays (setting_of plan.trap plan.circuit plan.placement) steps → text ≡ schedule_text (setting_of plan.trap plan.circuit plan.placement) steps
+    → IsFoundAgain found later text → length text ≤ 2 ^ 30 → IsAccepted work later check_words text
+judged_by work asked found later check_words rule next done plan steps text comes check_request plays text_is there few =
+    let setting = setting_of plan.trap plan.circuit plan.placement in
+    let again = read_again found later rule next done plan setting steps text refl plays text_is there.circuit there.trap there.schedule few in
+    record {
+      setting = setting;
+      steps = steps;
+      judges = comes_by later check_words asked (work setting steps) check_request (comes later (Ok (work setting steps)) (judged_for work later setting steps text again));
+      text_is = text_is;
+    }
+
+-- the text of a compilation stands as the schedule
+judged_again : (work : WorkOf) (asked : Asked) (found later : Found) (words check_words : List (List ℕ)) (circuit trap : List ℕ) (rule : PlaceRule) (exact : Option Search) (before now : Devices) → IsCaseOf work asked
+    → request_of words ≡ Some (compile circuit trap rule exact) → request_of check_words ≡ Some asked
     → (wrote : Writes found words answers.Ok before now) → IsFoundAgain found later wrote.ending.text → length wrote.ending.text ≤ 2 ^ 30
     → IsAccepted work later check_words wrote.ending.text
-judged_again work asked found later words check_words circuit trap rule before now comes request check_request wrote there few =
+judged_again work asked found later words check_words circuit trap rule None before now comes request check_request wrote there few =
     let done = wrote.done.work in
     let plan = placed_by found rule Routed done (asked_for found words (compile circuit trap rule None) done request wrote.done.is) in
     let setting = setting_of plan.trap plan.circuit plan.placement in
     let written : IsTightTextOf setting wrote.ending.text =
     (subst (λ (w : Work). Ends w answers.Ok wrote.ending) (routed_work setting done plan.continues) wrote.done.ends).1.schedule in
-    let steps = written.is.schedule in
-    let again = read_again found later rule Routed done plan setting steps wrote.ending.text refl written.is.plays written.is.text_is there.circuit there.trap there.schedule few in
-    record {
-      setting = setting;
-      steps = steps;
-      judges = comes_by later check_words asked (work setting steps) check_request (comes later (Ok (work setting steps)) (judged_for work later setting steps wrote.ending.text again));
-      text_is = written.is.text_is;
-    }
+    judged_by work asked found later check_words rule Routed done plan written.is.schedule wrote.ending.text comes check_request written.is.plays written.is.text_is there few
+judged_again work asked found later words check_words circuit trap rule (Some exact) before now comes request check_request wrote there few =
+    let next = λ (s : SettingValue). Is (within_search s exact) in
+    let done = wrote.done.work in
+    let plan = placed_by found rule next done (asked_for found words (compile circuit trap rule (Some exact)) done request wrote.done.is) in
+    let setting = setting_of plan.trap plan.circuit plan.placement in
+    let ends : EndsSearch setting exact.max exact.budget answers.Ok wrote.ending = subst (λ (w : Work). Ends w answers.Ok wrote.ending) (sought_work setting exact done plan.continues).1 wrote.done.ends in
+    let is = least_written setting exact.max exact.budget wrote.ending ends in
+    judged_by work asked found later check_words rule next done plan is.schedule wrote.ending.text comes check_request is.least.plays is.text_is there few
 
-pub judged_legal : (found later : Found) (words check_words : List (List ℕ)) (circuit trap circuit_again trap_again schedule : List ℕ) (rule : PlaceRule) (before now : Devices)
-    → request_of words ≡ Some (compile circuit trap rule None) → request_of check_words ≡ Some (check circuit_again trap_again schedule)
+pub judged_legal : (found later : Found) (words check_words : List (List ℕ)) (circuit trap circuit_again trap_again schedule : List ℕ) (rule : PlaceRule) (exact : Option Search) (before now : Devices)
+    → request_of words ≡ Some (compile circuit trap rule exact) → request_of check_words ≡ Some (check circuit_again trap_again schedule)
     → (wrote : Writes found words answers.Ok before now) → IsFoundAgain found later wrote.ending.text → length wrote.ending.text ≤ 2 ^ 30
     → IsAccepted judged later check_words wrote.ending.text
-judged_legal found later words check_words circuit trap circuit_again trap_again schedule rule before now =
-    judged_again judged (check circuit_again trap_again schedule) found later words check_words circuit trap rule before now (λ found outcome is. is)
+judged_legal found later words check_words circuit trap circuit_again trap_again schedule rule exact before now =
+    judged_again judged (check circuit_again trap_again schedule) found later words check_words circuit trap rule exact before now (λ found outcome is. is)
 
-pub judged_reported : (found later : Found) (words report_words : List (List ℕ)) (circuit trap circuit_again trap_again schedule : List ℕ) (rule : PlaceRule) (before now : Devices)
-    → request_of words ≡ Some (compile circuit trap rule None) → request_of report_words ≡ Some (report circuit_again trap_again schedule)
+pub judged_reported : (found later : Found) (words report_words : List (List ℕ)) (circuit trap circuit_again trap_again schedule : List ℕ) (rule : PlaceRule) (exact : Option Search) (before now : Devices)
+    → request_of words ≡ Some (compile circuit trap rule exact) → request_of report_words ≡ Some (report circuit_again trap_again schedule)
     → (wrote : Writes found words answers.Ok before now) → IsFoundAgain found later wrote.ending.text → length wrote.ending.text ≤ 2 ^ 30
     → IsAccepted reported later report_words wrote.ending.text
-judged_reported found later words report_words circuit trap circuit_again trap_again schedule rule before now =
-    judged_again reported (report circuit_again trap_again schedule) found later words report_words circuit trap rule before now (λ found outcome is. is)
+judged_reported found later words report_words circuit trap circuit_again trap_again schedule rule exact before now =
+    judged_again reported (report circuit_again trap_again schedule) found later words report_words circuit trap rule exact before now (λ found outcome is. is)

@@ -18,7 +18,8 @@ use Rattle.step_vars.specs.Certifies.{Certifies}
 use Rattle.request_words.specs.Request.{Search}
 use Rattle.run_stages.specs.Found.{Found}
 use Rattle.run_stages.specs.Prepare.{CircuitOf, TrapOf}
-use Rattle.run_stages.specs.Exact.{RefutesFewerByFresh}
+use Rattle.run_stages.specs.declared.ending.Ending.{Ending}
+use Rattle.run_stages.specs.Exact.{RefutesFewerByFresh, IsNoneFound, IsBudgetSpent}
 use Rattle.qccd.specs.Run.{Devices, Holds}
 
 -- the line of an operation: its zone, its number, the ions on which the placement puts its qubits, and its text
@@ -61,3 +62,31 @@ pub record Compiled (found : Found) (rule : PlaceRule) (exact : Option Search) (
       ≡ line_with_ions trap circuit placement zone number op
   pub fewest : IsCertifiedIfExact exact (setting_of trap circuit placement) schedule before now
   pub taken : Took before.out.taken now.out.taken (schedule_text (setting_of trap circuit placement) schedule)
+
+-- ---- a search that finds no schedule
+
+-- The circuit and the trap are those of the files, and the placement is that of the rule. The search from there
+-- ended so, what it ended with was put under the name of the certificate, and nothing was written.
+pub record Searched (found : Found) (rule : PlaceRule) (exact : Search) (before now : Devices)
+    (ends : SettingValue → Ending → Type 0) : Type 0 where
+  pub circuit : CircuitValue
+  pub circuit_is : CircuitOf found.circuit (Ok circuit)
+  pub trap : TrapValue
+  pub labels : Option Table
+  pub trap_is : TrapOf found.trap (Ok (trap, labels))
+  pub placement : List (List Qubit)
+  pub placement_is : place_by trap circuit rule labels ≡ Ok placement
+  pub ending : Ending
+  pub is : ends (setting_of trap circuit placement) ending
+  pub holds : Holds before.shelf now.shelf (Some exact.cert) ending.put
+  pub out : now.out ≡ before.out
+
+-- no schedule of as many steps as were asked for, or fewer, plays, and what was put refutes that one does
+abbrev pub FoundNone : Found → PlaceRule → Search → ℕ → Devices → Devices → Type 0
+FoundNone found rule exact most before now = Searched found rule exact before now
+    (λ setting ending. (most ≡ exact.max) × IsNoneFound setting exact.max exact.budget ending)
+
+-- as many lines were derived as were asked for, and what was put leaves a number of steps open
+abbrev pub SpentBudget : Found → PlaceRule → Search → ℕ → Devices → Devices → Type 0
+SpentBudget found rule exact spent before now = Searched found rule exact before now
+    (λ setting ending. (spent ≡ exact.budget) × IsBudgetSpent setting exact.max exact.budget ending)

@@ -14,7 +14,7 @@ pub record IsFoundAgain (before later : Found) (text : List ℕ) : Type 0 where
   pub schedule : later.schedule ≡ Some text
 
 -- the text is that of steps from the placement of a setting, and what the words ask for comes to that work with
--- them, which is that of a schedule that plays
+-- them
 pub record IsAccepted (work : SettingValue → List (List Action) → Work) (found : Found) (words : List (List ℕ))
     (text : List ℕ) : Type 0 where
   pub setting : SettingValue

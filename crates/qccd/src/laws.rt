@@ -1,6 +1,6 @@
 //! Laws of the definitions that `run` is proved by.
 
-ghost use Rattle.std.specs.Prelude.{◌≡◌, ℕ, ◌≤◌, ◌^◌, List, length, Option, Some, None, Result, Ok, IfSome};
+ghost use Rattle.std.specs.Prelude.{◌≡◌, ℕ, ◌≤◌, ◌^◌, List, length, Option, Some, Result, Ok, IfSome};
 ghost use Rattle.placement.specs.declared.rule.PlaceRule.{PlaceRule};
 ghost use Rattle.step_rules.specs.declared.action.Action.{Action};
 ghost use Rattle.step_rules.specs.Setting.{SettingValue};
@@ -11,7 +11,7 @@ ghost use Rattle.run_stages.specs.Work.{Work, judged, reported, verified};
 ghost use Rattle.run_stages.specs.Found.{Found};
 ghost use Rattle.run_stages.specs.Prepare.{Prepares};
 ghost use Rattle.qccd.specs.Run.{Devices, Runs, Writes};
-ghost use Rattle.qccd.specs.Headline.{Compiled};
+ghost use Rattle.qccd.specs.Headline.{Compiled, FoundNone, SpentBudget};
 ghost use Rattle.qccd.specs.RoundTrip.{IsFoundAgain, IsAccepted};
 
 use schedule_text::small_schedules_have_short_texts;
@@ -25,6 +25,19 @@ pub fn an_ok_compilation_is_compiled()
         (exact : Option Search) (before now : Devices)
         → request_of words ≡ Some (compile circuit trap rule exact) → (run : Runs words before now Answer.Ok)
         → Compiled run.found rule exact before now }
+{}
+
+/// A search that finds no schedule says so only where none of at most `--max` steps plays from the placement, and what
+/// was put under the name of the certificate refutes that one does; and that its budget is spent only where what was
+/// put has as many lines, all good and fresh, and leaves a number of steps open.
+pub fn a_search_without_a_schedule_shows_why()
+    ensures none { (words : List (List ℕ)) (circuit trap : List ℕ) (rule : PlaceRule) (exact : Search) (most : ℕ)
+        (before now : Devices) → request_of words ≡ Some (compile circuit trap rule (Some exact))
+        → (run : Runs words before now (Answer.NoneWithin most)) → FoundNone run.found rule exact most before now }
+    ensures budget { (words : List (List ℕ)) (circuit trap : List ℕ) (rule : PlaceRule) (exact : Search)
+        (spent : ℕ) (before now : Devices) → request_of words ≡ Some (compile circuit trap rule (Some exact))
+        → (run : Runs words before now (Answer.Budget spent))
+        → SpentBudget run.found rule exact spent before now }
 {}
 
 /// Where a verification comes to work, its schedule has the fewest steps of all that play from its placement,
@@ -48,14 +61,14 @@ pub fn one_outcome()
 /// circuit and trap are found, and the text as the schedule.
 pub fn a_compiled_schedule_is_legal()
     ensures checked { (found later : Found) (words check_words : List (List ℕ))
-        (circuit trap circuit_again trap_again schedule : List ℕ) (rule : PlaceRule) (before now : Devices)
-        → request_of words ≡ Some (compile circuit trap rule None)
+        (circuit trap circuit_again trap_again schedule : List ℕ) (rule : PlaceRule) (exact : Option Search)
+        (before now : Devices) → request_of words ≡ Some (compile circuit trap rule exact)
         → request_of check_words ≡ Some (check circuit_again trap_again schedule)
         → (wrote : Writes found words Answer.Ok before now) → IsFoundAgain found later wrote.ending.text
         → length wrote.ending.text ≤ 2 ^ 30 → IsAccepted judged later check_words wrote.ending.text }
     ensures reported { (found later : Found) (words report_words : List (List ℕ))
-        (circuit trap circuit_again trap_again schedule : List ℕ) (rule : PlaceRule) (before now : Devices)
-        → request_of words ≡ Some (compile circuit trap rule None)
+        (circuit trap circuit_again trap_again schedule : List ℕ) (rule : PlaceRule) (exact : Option Search)
+        (before now : Devices) → request_of words ≡ Some (compile circuit trap rule exact)
         → request_of report_words ≡ Some (report circuit_again trap_again schedule)
         → (wrote : Writes found words Answer.Ok before now) → IsFoundAgain found later wrote.ending.text
         → length wrote.ending.text ≤ 2 ^ 30 → IsAccepted reported later report_words wrote.ending.text }

@@ -155,8 +155,8 @@ fn without_bits(alloc: Global, qubits: u32, ops: Vec<Op>) -> Result<Circuit, Fai
     Ok(Circuit::new(qregs, Vec::new(alloc), ops))
 }
 
-/// A register q of so many qubits, one c of so many bits where there are any, and these operations on them. An angle
-/// is a whole number or pi.
+/// A register q of so many qubits, one c of so many bits where there are any, and these operations on
+/// them. An angle is a whole number or pi.
 pub fn circuit_of(alloc: Global, qubits: u32, bits: u32, ops: Vec<Op>) -> Result<Circuit, Fail>
     ensures { IfOk result (λ circuit. qubit_count circuit ≡ qubits) }
 {

@@ -94,8 +94,8 @@ pub fn zones_at_a_slot(alloc: Global, zones: &[(u32, &[Need])]) -> Result<Trap, 
     trap_of(alloc, parts)
 }
 
-/// Such zones, of which A is joined with that end of the first segment, that segment with junction J, J with end a of
-/// the second segment, and that segment with B.
+/// Such zones, of which A is joined with that end of segment s, s with junction J, J with end a of
+/// segment t, and t with B. The segments are s and t.
 pub fn zones_at_a_junction(
     alloc: Global,
     zones: &[(u32, &[Need])],

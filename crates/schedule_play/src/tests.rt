@@ -6,8 +6,8 @@ ghost use Rattle.step_rules.specs.Config.{IsConfigOf};
 
 use crate::fault::PlayFault;
 use crate::simulator::play;
-use circuit_core::Circuit;
-use qc_base::{End, Ion, JunctionId, Name, NoMemory, OpId, PlaceId};
+use circuit_core::{Angle, Circuit, Cond, Op};
+use qc_base::{CregId, End, Ion, JunctionId, Name, NoMemory, OpId, PlaceId, Qubit};
 use samples::{barrier, cx, join, lists_of, segment, trap_of, turn, zones_at_a_junction, zones_of};
 use std::alloc::Global;
 use std::process::Abort;
@@ -17,7 +17,8 @@ use trap_model::{Need, Trap, TrapParts};
 
 const ABLE: [Need; 2] = [Need::One, Need::Two];
 
-// Zone A by segment s to junction J, and from there by t.0, with room for two ions, to zone B. Each has room for three.
+// Zone A by segment s to junction J, and from there by t.0, with room for two ions, to zone B. Each zone has
+// room for three.
 fn line(alloc: Global, slots: u32, load: u32) -> Result<Trap, Fail> {
     let segments = [
         segment(alloc, b"s", slots, load)?,
@@ -290,39 +291,74 @@ fn barriers(alloc: Global) -> Result<Circuit, Fail> {
     samples::circuit_of(alloc, 4, 0, ops)
 }
 
-// Plays the steps from the circuit with barriers.
+// A gate on the qubit, where a register of 4,096 bits holds the value.
+fn turn_if(qubit: u32, value: u64) -> Op {
+    Op::U {
+        theta: Angle::Pi,
+        phi: Angle::Pi,
+        lambda: Angle::Pi,
+        qubit: Qubit(qubit),
+        cond: Some(Cond {
+            creg: CregId(0),
+            value,
+        }),
+    }
+}
+
+// Plays the steps of the circuit.
 fn answer(
     rt: &impl Abort,
     alloc: Global,
     trap: &Trap,
+    circuit: &Circuit,
     steps: &[&[Action]],
 ) -> Result<Option<PlayFault>, Fail> {
-    let circuit = barriers(alloc)?;
-    let placement = placed(alloc, trap, &circuit)?;
+    let placement = placed(alloc, trap, circuit)?;
     let schedule = schedule_of(rt, alloc, steps)?;
-    Ok(play(alloc, trap, &circuit, &placement, &schedule).err())
+    Ok(play(alloc, trap, circuit, &placement, &schedule).err())
 }
 
 #[test]
 fn barriers_between_operations(rt: HostRuntime) -> Result<(), Fail> {
     let alloc = rt.alloc();
     let trap = line(alloc, 1, 2)?;
+    let circuit = barriers(alloc)?;
     let last_first: [&[Action]; 1] = [&[op(1, 3)]];
     let early = PlayFault::Early {
         step: 1,
         op: OpId(3),
         needs: OpId(0),
     };
-    assert!(rt; answer(&rt, alloc, &trap, &last_first)? == Some(early));
+    assert!(rt; answer(&rt, alloc, &trap, &circuit, &last_first)? == Some(early));
     let together: [&[Action]; 1] = [&[op(0, 0), op(1, 3)]];
-    assert!(rt; answer(&rt, alloc, &trap, &together)? == Some(early));
+    assert!(rt; answer(&rt, alloc, &trap, &circuit, &together)? == Some(early));
     let in_order: [&[Action]; 2] = [&[op(0, 0)], &[op(1, 3)]];
-    assert!(rt; answer(&rt, alloc, &trap, &in_order)?.is_none());
+    assert!(rt; answer(&rt, alloc, &trap, &circuit, &in_order)?.is_none());
     let performed: [&[Action]; 2] = [&[op(0, 0)], &[op(0, 1)]];
     let not_op = broken(2, 1, Rule::NotOp);
-    assert!(rt; answer(&rt, alloc, &trap, &performed)? == Some(not_op));
+    assert!(rt; answer(&rt, alloc, &trap, &circuit, &performed)? == Some(not_op));
     let missing: [&[Action]; 1] = [&[op(0, 0)]];
     let fault = PlayFault::Missing { op: OpId(3) };
-    assert!(rt; answer(&rt, alloc, &trap, &missing)? == Some(fault));
+    assert!(rt; answer(&rt, alloc, &trap, &circuit, &missing)? == Some(fault));
+    Ok(())
+}
+
+#[test]
+fn conditions_on_4096_bits(rt: HostRuntime) -> Result<(), Fail> {
+    let alloc = rt.alloc();
+    let trap = line(alloc, 1, 2)?;
+    let ops = Vec::from_array(alloc, [turn_if(0, 1), turn_if(2, 2)])?;
+    let circuit = samples::circuit_of(alloc, 4, 4096, ops)?;
+    let last_first: [&[Action]; 1] = [&[op(1, 1)]];
+    let early = PlayFault::Early {
+        step: 1,
+        op: OpId(1),
+        needs: OpId(0),
+    };
+    assert!(rt; answer(&rt, alloc, &trap, &circuit, &last_first)? == Some(early));
+    let together: [&[Action]; 1] = [&[op(0, 0), op(1, 1)]];
+    assert!(rt; answer(&rt, alloc, &trap, &circuit, &together)? == Some(early));
+    let in_order: [&[Action]; 2] = [&[op(0, 0)], &[op(1, 1)]];
+    assert!(rt; answer(&rt, alloc, &trap, &circuit, &in_order)?.is_none());
     Ok(())
 }

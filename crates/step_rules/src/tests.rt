@@ -1,11 +1,5 @@
 //! Actions between two zones that a junction joins, and lists that are no placement.
 
-ghost use Rattle.std.specs.Prelude.{◌≡◌, ◌≤◌, ◌<◌, ◌∷◌, [], IsTrue, All, IfOk};
-ghost use Rattle.circuit_core.specs.Circuit.{qubit_count};
-ghost use Rattle.trap_model.specs.Names.{is_name as is_name_of};
-ghost use Rattle.trap_model.specs.Trap.{lists, names_of};
-ghost use Rattle.trap_model.specs.Build.{AreNames};
-ghost use Rattle.step_rules.specs.Placement.{IsPlacement};
 ghost use Rattle.step_rules.specs.Config.{IsConfigOf};
 
 use crate::action::{Action, Rule, Schedule};
@@ -14,93 +8,13 @@ use crate::conflict::{conflicts, footprint};
 use crate::placement::{GivenFault, Placement};
 use crate::rules::enabled;
 use crate::spots::Footprint;
-use circuit_core::{Circuit, Op, Qubits, Reg};
-use qc_base::{End, Ion, JunctionId, Name, NoMemory, OpId, PlaceId, Qubit};
+use circuit_core::Circuit;
+use qc_base::{End, Ion, JunctionId, OpId, PlaceId, Qubit};
+use samples::{barrier, circuit_of, cx, lists_of, segment, zones_at_a_junction};
 use std::alloc::Global;
 use std::process::Abort;
 use std::test::Fail;
-use trap_model::{EndName, JoinPart, SegmentPart, Trap, TrapParts, ZonePart, is_name};
-
-fn zones_named(zones: &[ZonePart]) -> bool
-    ensures { IsTrue result → All (λ zone. IsTrue (is_name_of zone.name)) zones.now }
-{
-    for zone in zones {
-        if !is_name(zone.name.bytes()) {
-            return false;
-        }
-    }
-    true
-}
-
-fn segments_named(segments: &[SegmentPart]) -> bool
-    ensures { IsTrue result → All (λ segment. IsTrue (is_name_of segment.name)) segments.now }
-{
-    for segment in segments {
-        if !is_name(segment.name.bytes()) {
-            return false;
-        }
-    }
-    true
-}
-
-fn junctions_named(junctions: &[Name]) -> bool
-    ensures { IsTrue result → AreNames junctions.now }
-{
-    for junction in junctions {
-        if !is_name(junction.bytes()) {
-            return false;
-        }
-    }
-    true
-}
-
-fn are_named(parts: &TrapParts) -> bool
-    ensures { IsTrue result → AreNames (names_of (lists parts.now)) }
-{
-    if !zones_named(parts.zones.as_slice()) {
-        return false;
-    }
-    if !segments_named(parts.segments.as_slice()) {
-        return false;
-    }
-    junctions_named(parts.junctions.as_slice())
-}
-
-fn zone(alloc: Global, name: &[u8], capacity: u32) -> Result<ZonePart, NoMemory> {
-    Ok(ZonePart {
-        name: Name::from_bytes(alloc, name)?,
-        capacity,
-        one: false,
-        two: true,
-        read: false,
-    })
-}
-
-fn segment(alloc: Global, name: &[u8], slots: u32, load: u32) -> Result<SegmentPart, NoMemory> {
-    Ok(SegmentPart {
-        name: Name::from_bytes(alloc, name)?,
-        slots,
-        load,
-    })
-}
-
-fn end_name(alloc: Global, name: &[u8], end: Option<End>) -> Result<EndName, NoMemory> {
-    Ok(EndName {
-        name: Name::from_bytes(alloc, name)?,
-        end,
-    })
-}
-
-fn join(
-    alloc: Global,
-    first: (&[u8], End),
-    second: (&[u8], Option<End>),
-) -> Result<JoinPart, NoMemory> {
-    Ok(JoinPart {
-        first: end_name(alloc, first.0, Some(first.1))?,
-        second: end_name(alloc, second.0, second.1)?,
-    })
-}
+use trap_model::{Need, Trap};
 
 // Zone A by segment s to junction J, and from there by segment t to zone B.
 #[derive(Clone, Copy)]
@@ -112,93 +26,18 @@ struct Sketch {
     loads: (u32, u32),
 }
 
-fn trap_of(rt: &impl Abort, alloc: Global, sketch: &Sketch) -> Result<Trap, Fail> {
-    let mut zones = Vec::new(alloc);
-    zones.push(zone(alloc, b"A", sketch.capacity)?)?;
-    zones.push(zone(alloc, b"B", 4)?)?;
-    let mut segments = Vec::new(alloc);
-    segments.push(segment(alloc, b"s", sketch.slots, sketch.loads.0)?)?;
-    segments.push(segment(alloc, b"t", 1, sketch.loads.1)?)?;
-    let mut junctions = Vec::new(alloc);
-    junctions.push(Name::from_bytes(alloc, b"J")?)?;
-    let other = match sketch.end {
-        End::A => End::B,
-        End::B => End::A,
-    };
-    let mut joins = Vec::new(alloc);
-    joins.push(join(alloc, (b"A", End::B), (b"s", Some(sketch.end)))?)?;
-    joins.push(join(alloc, (b"s", other), (b"J", None))?)?;
-    joins.push(join(alloc, (b"t", End::A), (b"J", None))?)?;
-    joins.push(join(alloc, (b"B", End::A), (b"t", Some(End::B)))?)?;
-    let parts = TrapParts {
-        zones,
-        segments,
-        junctions,
-        joins,
-    };
-    assert!(rt; are_named(&parts));
-    let trap = Trap::build(alloc, parts)?;
-    Ok(trap)
+fn trap_of(alloc: Global, sketch: &Sketch) -> Result<Trap, Fail> {
+    let two = [Need::Two];
+    let first = segment(alloc, b"s", sketch.slots, sketch.loads.0)?;
+    let second = segment(alloc, b"t", 1, sketch.loads.1)?;
+    let zones: [(u32, &[Need]); 2] = [(sketch.capacity, &two), (4, &two)];
+    zones_at_a_junction(alloc, &zones, sketch.end, [first, second])
 }
 
-// So many qubits, of which the first two meet, and then a barrier on these two.
-fn circuit_of(alloc: Global, qubits: u32) -> Result<Circuit, NoMemory>
-    requires some { 2 ≤ qubits }
-    requires few { qubits ≤ 8 }
-    ensures { IfOk result (λ circuit. qubit_count circuit ≡ qubits) }
-{
-    let mut ops = Vec::new(alloc);
-    ops.push(Op::Cx {
-        control: Qubit(0),
-        target: Qubit(1),
-        cond: None,
-    })?;
-    let mut pair = Vec::new(alloc);
-    pair.push(Qubit(0))?;
-    pair.push(Qubit(1))?;
-    ops.push(Op::Barrier {
-        qubits: Qubits::from_vec(pair),
-    })?;
-    let name = Name::from_bytes(alloc, b"q")?;
-    let mut qregs = Vec::new(alloc);
-    qregs.push(Reg { name, size: qubits })?;
-    Ok(Circuit::new(qregs, Vec::new(alloc), ops))
-}
-
-fn qubits_of(alloc: Global, numbers: &[u32]) -> Result<Qubits, NoMemory> {
-    let mut items = Vec::new(alloc);
-    for number in numbers {
-        items.push(Qubit(*number))?;
-    }
-    Ok(Qubits::from_vec(items))
-}
-
-fn are_below(qubits: &[Qubit], count: u32) -> bool
-    ensures { IsTrue result → All (λ qubit. qubit.0 < count) qubits.now }
-{
-    qubits.iter().all(|qubit| qubit.0 < count)
-}
-
-// A placement of two lists.
-fn place(
-    rt: &impl Abort,
-    alloc: Global,
-    trap: &Trap,
-    circuit: &Circuit,
-    zones: (&[u32], &[u32]),
-) -> Result<Placement, GivenFault>
-    ensures { IfOk result (IsPlacement trap.now circuit.now) }
-{
-    let first = qubits_of(alloc, zones.0)?;
-    let second = qubits_of(alloc, zones.1)?;
-    assert!(rt; trap.zones().len() == 2);
-    let count = circuit.qubits();
-    assert!(rt; are_below(first.items(), count));
-    assert!(rt; are_below(second.items(), count));
-    let mut lists = Vec::new(alloc);
-    lists.push(first)?;
-    lists.push(second)?;
-    Placement::new(alloc, trap, circuit, lists)
+// Four qubits, of which the first two meet, and then a barrier on these two.
+fn four_qubits(alloc: Global) -> Result<Circuit, Fail> {
+    let wall = barrier(alloc, &[0, 1])?;
+    circuit_of(alloc, 4, 0, Vec::from_array(alloc, [cx(0, 1), wall])?)
 }
 
 fn reads(ions: &[Ion], numbers: &[u32]) -> bool {
@@ -301,9 +140,10 @@ fn plays(
     actions: &[(Action, Result<(), Rule>)],
     places: &[&[u32]],
 ) -> Result<(), Fail> {
-    let trap = trap_of(rt, alloc, sketch)?;
-    let circuit = circuit_of(alloc, 4)?;
-    let placement = place(rt, alloc, &trap, &circuit, zones)?;
+    let trap = trap_of(alloc, sketch)?;
+    let circuit = four_qubits(alloc)?;
+    let lists = lists_of(alloc, &trap, &circuit, &[zones.0, zones.1])?;
+    let placement = Placement::new(alloc, &trap, &circuit, lists)?;
     let mut config = Config::start(alloc, &trap, &placement)?;
     act_all(rt, &trap, &circuit, &placement, &mut config, actions);
     compare(rt, &trap, &config, places);
@@ -444,8 +284,8 @@ fn slots_in_a_row(rt: HostRuntime) -> Result<(), Fail> {
 #[test]
 fn lists_that_are_no_placement(rt: HostRuntime) -> Result<(), Fail> {
     let alloc = rt.alloc();
-    let trap = trap_of(&rt, alloc, &drawn(3, End::A, 1, (1, 1)))?;
-    let circuit = circuit_of(alloc, 4)?;
+    let trap = trap_of(alloc, &drawn(3, End::A, 1, (1, 1)))?;
+    let circuit = four_qubits(alloc)?;
     let repeated = |number| GivenFault::Repeated {
         qubit: Qubit(number),
     };
@@ -462,12 +302,14 @@ fn lists_that_are_no_placement(rt: HostRuntime) -> Result<(), Fail> {
         ((&[3, 2, 1], &[]), missing(0)),
     ];
     for (zones, fault) in &rows {
-        match place(&rt, alloc, &trap, &circuit, *zones) {
+        let lists = lists_of(alloc, &trap, &circuit, &[zones.0, zones.1])?;
+        match Placement::new(alloc, &trap, &circuit, lists) {
             Ok(_) => assert!(rt; false),
             Err(e) => assert!(rt; e == *fault),
         }
     }
-    let placement = place(&rt, alloc, &trap, &circuit, (&[2, 0], &[3, 1]))?;
+    let lists = lists_of(alloc, &trap, &circuit, &[&[2, 0], &[3, 1]])?;
+    let placement = Placement::new(alloc, &trap, &circuit, lists)?;
     assert!(rt; placement.ion_of(Qubit(3)) == Ion(2) && placement.ion_of(Qubit(0)) == Ion(1));
     Ok(())
 }
@@ -475,8 +317,8 @@ fn lists_that_are_no_placement(rt: HostRuntime) -> Result<(), Fail> {
 #[test]
 fn footprints_and_conflicts(rt: HostRuntime) -> Result<(), Fail> {
     let alloc = rt.alloc();
-    let trap = trap_of(&rt, alloc, &drawn(3, End::A, 1, (1, 1)))?;
-    let circuit = circuit_of(alloc, 4)?;
+    let trap = trap_of(alloc, &drawn(3, End::A, 1, (1, 1)))?;
+    let circuit = four_qubits(alloc)?;
     let crossing = Footprint {
         first: PlaceId(2),
         second: Some(PlaceId(3)),

@@ -13,8 +13,8 @@ use std::test::Fail;
 use step_rules::Placement;
 use trap_model::Need;
 
-// Zones A and B of capacity 4, of which A performs operations on two qubits, joined by one slot; two qubits in each
-// zone, and a CX of two of these four.
+// Zones A and B of capacity 4, of which A performs operations on two qubits, joined by one slot; two qubits
+// in each zone, and a CX of two of these four.
 #[tactic(auto, unfolding(crate::specs::Encoding::vars_of))]
 fn vars(rt: &impl Abort, alloc: Global, encoding: Encoding) -> Result<Vars, Fail>
     ensures { IfOk result (λ vars. vars.steps ≡ 1) }

@@ -4,4 +4,5 @@ use Rattle.samples.proofs.traps.junctions_named.Given as goal
 
 -- the names before have the form
 abbrev pub invariant-loop-junction : goal.invariant-loop-junction
-invariant-loop-junction l = (k : ℕ) (d : List ℕ) → k < l.junction-index → IsTrue (is_name (get_or l.junctions k d))
+invariant-loop-junction l =
+    (k : ℕ) (d : List ℕ) → k < l.junction-index → IsTrue (is_name (get_or l.junctions k d))

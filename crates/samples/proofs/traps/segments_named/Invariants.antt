@@ -5,4 +5,5 @@ use Rattle.samples.proofs.traps.segments_named.Given as goal
 
 -- the names before have the form
 abbrev pub invariant-loop-segment : goal.invariant-loop-segment
-invariant-loop-segment l = (k : ℕ) (d : SegmentPart) → k < l.segment-index → IsTrue (is_name (get_or l.segments k d).name)
+invariant-loop-segment l =
+    (k : ℕ) (d : SegmentPart) → k < l.segment-index → IsTrue (is_name (get_or l.segments k d).name)

@@ -5,4 +5,5 @@ use Rattle.samples.proofs.traps.zones_named.Given as goal
 
 -- the names before have the form
 abbrev pub invariant-loop-zone : goal.invariant-loop-zone
-invariant-loop-zone l = (k : ℕ) (d : ZonePart) → k < l.zone-index → IsTrue (is_name (get_or l.zones k d).name)
+invariant-loop-zone l =
+    (k : ℕ) (d : ZonePart) → k < l.zone-index → IsTrue (is_name (get_or l.zones k d).name)

@@ -1,8 +1,0 @@
-use Rattle.std.proofs.Common.{ℕ, ◌<◌, get_or, IsTrue}
-use Rattle.trap_model.specs.Names.{is_name}
-use Rattle.trap_model.specs.declared.parts.SegmentPart.{SegmentPart}
-use Rattle.step_rules.proofs.tests.segments_named.Given as goal
-
--- the names before have the form
-abbrev pub invariant-loop-segment : goal.invariant-loop-segment
-invariant-loop-segment l = (k : ℕ) (d : SegmentPart) → k < l.segment-index → IsTrue (is_name (get_or l.segments k d).name)

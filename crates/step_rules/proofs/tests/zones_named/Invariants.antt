@@ -1,8 +1,0 @@
-use Rattle.std.proofs.Common.{ℕ, ◌<◌, get_or, IsTrue}
-use Rattle.trap_model.specs.Names.{is_name}
-use Rattle.trap_model.specs.declared.parts.ZonePart.{ZonePart}
-use Rattle.step_rules.proofs.tests.zones_named.Given as goal
-
--- the names before have the form
-abbrev pub invariant-loop-zone : goal.invariant-loop-zone
-invariant-loop-zone l = (k : ℕ) (d : ZonePart) → k < l.zone-index → IsTrue (is_name (get_or l.zones k d).name)
