@@ -2,8 +2,6 @@
 
 ghost use Rattle.std.specs.Prelude.{◌≡◌, ◌+◌, ◌<◌, ◌≤◌, ◌∷◌, [], ◌++◌, length, map, IfOk, OnOk};
 ghost use Rattle.sat_base.specs.Valuation.{valuation_of};
-ghost use Rattle.circuit_core.specs.Circuit.{IsCircuit};
-ghost use Rattle.trap_model.specs.Build.{IsTrap};
 ghost use Rattle.step_rules.specs.Config.{IsConfigOf};
 ghost use Rattle.step_rules.specs.Placement.{IsPlacement};
 ghost use Rattle.step_rules.specs.Setting.{setting_of};
@@ -23,18 +21,9 @@ use qc_base::NoMemory;
 use sat_base::Assignment;
 use std::alloc::Global;
 use step_models::models_are_schedules;
-use step_rules::{Action, Config, Placement, Schedule, Setting};
+use step_rules::{Action, Config, Placement, Schedule, Setting, traps_and_circuits_are_sound};
 use step_vars::{Vars, parts_are_in_order};
 use trap_model::Trap;
-
-// What traps and circuits keep.
-fn are_sound(trap: &Trap, circuit: &Circuit)
-    ensures trap { IsTrap trap.now }
-    ensures circuit { IsCircuit circuit.now }
-{
-    trap.zones();
-    circuit.ops();
-}
 
 // Adds a step of these actions.
 fn add_step(schedule: &mut Schedule, actions: &[Action]) -> Result<(), NoMemory>
@@ -86,7 +75,7 @@ pub fn schedule_of(
         (facts_of (setting_of trap.now circuit.now placement.now) vars.now.encoding
         (valuation_of values.now)) t) }
 {
-    are_sound(trap, circuit);
+    traps_and_circuits_are_sound(trap, circuit);
     models_are_schedules();
     parts_are_in_order();
     let setting = Setting {

@@ -17,7 +17,7 @@ use std::process::Abort;
 use std::test::Fail;
 use step_clauses::{goal, layer};
 use step_models::parts_name_their_variables;
-use step_rules::{Action, Placement, Schedule, Setting};
+use step_rules::{Action, Placement, Schedule, Setting, traps_and_circuits_are_sound};
 use step_vars::{Claim, Encoding, Item, Vars};
 use trap_model::{Need, Trap};
 
@@ -137,8 +137,7 @@ fn is_model(
     ensures { IsTrue result → IsModel setting.now vars.now.encoding last (valuation_of values.now) }
 {
     parts_name_their_variables();
-    setting.trap.zones();
-    setting.circuit.ops();
+    traps_and_circuits_are_sound(setting.trap, setting.circuit);
     if !values.satisfies(formula) {
         return false;
     }

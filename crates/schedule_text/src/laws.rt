@@ -12,18 +12,13 @@ ghost use Rattle.step_rules.specs.Setting.{setting_of};
 ghost use Rattle.schedule_text.specs.Text.{schedule_text};
 ghost use Rattle.schedule_text.specs.Reading.{Spells};
 
-use circuit_core::Circuit;
-use trap_model::Trap;
-
 /// Two different pairs of placement and schedule have different texts.
-pub fn one_text(trap: &Trap, circuit: &Circuit)
-    ensures { (placement other : List (List Qubit)) (steps more : List (List Action)) (bytes : List ℕ)
-        → Spells trap.now circuit.now placement steps bytes
-        → Spells trap.now circuit.now other more bytes → (placement ≡ other) × (steps ≡ more) }
-{
-    let _zones = trap.zones();
-    let _ops = circuit.ops();
-}
+pub fn one_text()
+    ensures { (trap : TrapValue) (circuit : CircuitValue)
+        (placement other : List (List Qubit)) (steps more : List (List Action)) (bytes : List ℕ)
+        → IsTrap trap → IsCircuit circuit → Spells trap circuit placement steps bytes
+        → Spells trap circuit other more bytes → (placement ≡ other) × (steps ≡ more) }
+{}
 
 /// The text of a schedule that plays, of at most 48 steps and 200 operations on a trap of at most 48 places, has
 /// at most 2^30 bytes.

@@ -18,7 +18,7 @@ use crate::words::read_count;
 use circuit_core::{Circuit, Qubits};
 use qc_base::{NoMemory, strip_prefix};
 use std::alloc::Global;
-use step_rules::{GivenFault, Placement, Schedule, Setting};
+use step_rules::{GivenFault, Placement, Schedule, Setting, traps_and_circuits_are_sound};
 use trap_model::{Trap, ZonePart};
 
 // How many lines end in the bytes.
@@ -185,9 +185,7 @@ pub fn read(
         → (placement ≡ pair.0) × (steps ≡ pair.1)) }
     ensures fault { IfErr result (Refuses trap.now circuit.now bytes.now) }
 {
-    // These calls give that the trap and the circuit are sound.
-    let _zones = trap.zones();
-    let _ops = circuit.ops();
+    traps_and_circuits_are_sound(trap, circuit);
     if !fits(trap, circuit) {
         return Err(TextFault::Line { number: 1 });
     }

@@ -3,7 +3,7 @@
 ghost use Rattle.std.specs.Prelude.{◌≡◌, ℕ, ◌<◌, List, length, All, AllPairs, Contains, IsPermutation, Some, Ok};
 ghost use Rattle.qc_base.specs.declared.ids.Ion.{Ion};
 ghost use Rattle.qc_base.specs.declared.ids.Qubit.{Qubit};
-ghost use Rattle.circuit_core.specs.Circuit.{CircuitValue, qubit_count};
+ghost use Rattle.circuit_core.specs.Circuit.{CircuitValue, IsCircuit, qubit_count};
 ghost use Rattle.trap_model.specs.Trap.{TrapValue};
 ghost use Rattle.trap_model.specs.Build.{IsTrap};
 ghost use Rattle.trap_model.specs.declared.channel.Channel.{Channel};
@@ -16,6 +16,18 @@ ghost use Rattle.step_rules.specs.Guards.{Passes, PassesTransport, guards, trans
 ghost use Rattle.step_rules.specs.Steps.{place, footprint, Agree, AreApart, IsLegal, after, after_step};
 ghost use Rattle.step_rules.specs.Config.{IsWithinLimits, IsKept, all_ions};
 ghost use Rattle.step_rules.specs.Play.{AreLegal, after_steps};
+
+use circuit_core::Circuit;
+use trap_model::Trap;
+
+/// A trap keeps the rules of traps, and a circuit those of circuits.
+pub fn traps_and_circuits_are_sound(trap: &Trap, circuit: &Circuit)
+    ensures trap { IsTrap trap.now }
+    ensures circuit { IsCircuit circuit.now }
+{
+    trap.zones();
+    circuit.ops();
+}
 
 /// The result of a legal step is the same in every order of its actions.
 pub fn steps_in_any_order()

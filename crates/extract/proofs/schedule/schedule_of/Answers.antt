@@ -32,8 +32,8 @@ loop-time-init c =
     let start : List (List Ion) = start_of setting.trap setting.placement in
     let lists : List (List Ion) = c.in_ok-config.config.lists in
     let sound : IsSetting setting = record {
-      trap = c.are_sound.ensures.trap;
-      circuit = c.are_sound.ensures.circuit;
+      trap = c.traps_and_circuits_are_sound.ensures.trap;
+      circuit = c.traps_and_circuits_are_sound.ensures.circuit;
       placement = c.requires.placed;
     } in
     let small : IsSmall setting t = small_up_to setting t c.args.vars.now.steps c.requires.time c.requires.small in
@@ -67,7 +67,7 @@ actions-requires-clause-reads c =
       few = λ p within.
           let inside = c.loop-time.invariant.config in
           let there = inside.within p (omega (arith, within, inside.places)) in
-          omega (arith, there, any_limit_small c.args.trap.now p c.are_sound.ensures.trap);
+          omega (arith, there, any_limit_small c.args.trap.now p c.traps_and_circuits_are_sound.ensures.trap);
     }
 
 -- the actions that are read are the next step
@@ -130,8 +130,8 @@ returns-clause-plays c =
     let values : Valuation = valuation_of c.args.values.now in
     let facts : Facts = facts_of setting c.args.vars.now.encoding values in
     let sound : IsSetting setting = record {
-      trap = c.are_sound.ensures.trap;
-      circuit = c.are_sound.ensures.circuit;
+      trap = c.traps_and_circuits_are_sound.ensures.trap;
+      circuit = c.traps_and_circuits_are_sound.ensures.circuit;
       placement = c.requires.placed;
     } in
     let small : IsSmall setting c.args.t =

@@ -28,8 +28,8 @@ satisfies-requires c =
     let circuit : c.setting.inside.circuit.now ≡ setting.circuit =
     ap (λ (s : SettingValue). s.circuit) c.setting.view_is in
     let sound : IsSetting setting = record {
-      trap = subst IsTrap trap c.zones.ensures.trap;
-      circuit = subst IsCircuit circuit c.ops.ensures.circuit;
+      trap = subst IsTrap trap c.traps_and_circuits_are_sound.ensures.trap;
+      circuit = subst IsCircuit circuit c.traps_and_circuits_are_sound.ensures.circuit;
       placement = c.requires.placed;
     } in
     let small : IsSmall setting t =

@@ -23,10 +23,10 @@ returns-in_default-read_count-clause-fault c =
     let lists = c.in_ok-lists.lists.items in
     let read = c.in_ok-lists.ensures in
     refused trap circuit (head_text trap circuit lists) c.in_ok-lists.counted.now c.args.bytes.now c.bad_line.result read.found (head_begins trap circuit lists read.opens)
-    (count_sticks trap circuit lists c.in_ok-lists.counted.now c.ops-ops.ensures.circuit read.opens read.all (λ count rest few e. c.in_default-read_count.ensures.only count rest few e))
+    (count_sticks trap circuit lists c.in_ok-lists.counted.now c.traps_and_circuits_are_sound.ensures.circuit read.opens read.all (λ count rest few e. c.in_default-read_count.ensures.only count rest few e))
     (c.bad_line.ensures (head_text trap circuit lists) read.found)
 
 pub returns-clause-only : goal.returns-clause-only
 returns-clause-only c = λ placement steps spells.
-    one_pair c.args.trap.now c.args.circuit.now placement c.in_ok-placement.placement steps c.in_ok-schedule.schedule c.args.bytes.now c.zones-zones.ensures.trap c.ops-ops.ensures.circuit spells
+    one_pair c.args.trap.now c.args.circuit.now placement c.in_ok-placement.placement steps c.in_ok-schedule.schedule c.args.bytes.now c.traps_and_circuits_are_sound.ensures.trap c.traps_and_circuits_are_sound.ensures.circuit spells
     c.in_ok-schedule.ensures.found
