@@ -86,9 +86,9 @@ compiled found words circuit trap rule (Some exact) before now request writes =
       placement = plan.placement;
       placement_is = plan.placement_is;
       schedule = least.schedule;
-      plays = least.least.plays;
+      plays = least.shown.least.plays;
       named = named plan.trap plan.circuit plan.placement;
-      fewest = record { least = least.least; within = least.within; cert = least.put; certifies = least.certifies; fresh = least.fresh; holds = holds };
+      fewest = record { cert = least.put; shown = least.shown; holds = holds };
       taken = subst (λ (text : List ℕ). Took before.out.taken now.out.taken text) least.text_is writes.whole.taken;
     }
 

@@ -277,13 +277,13 @@ certified_verified short found later words verify_words circuit trap circuit_aga
     let ends : EndsSearch setting exact.max exact.budget answers.Ok wrote.ending = subst (λ (w : Work). Ends w answers.Ok wrote.ending) sought.1 wrote.done.ends in
     let is = least_written setting exact.max exact.budget wrote.ending ends in
     let steps = is.schedule in
-    let few = subst (λ (text : List ℕ). length text ≤ 2 ^ 30) (sym is.text_is) (text_fits short found rule next work plan exact.max steps sought.0 is.least.plays is.within) in
-    let read = read_again found later rule next work plan setting steps wrote.ending.text refl is.least.plays is.text_is there.circuit there.trap there.schedule few in
+    let few = subst (λ (text : List ℕ). length text ≤ 2 ^ 30) (sym is.text_is) (text_fits short found rule next work plan exact.max steps sought.0 is.shown.least.plays is.shown.within) in
+    let read = read_again found later rule next work plan setting steps wrote.ending.text refl is.shown.least.plays is.text_is there.circuit there.trap there.schedule few in
     record {
       setting = setting;
       steps = steps;
       judges = comes_by later verify_words (verify circuit_again trap_again schedule cert) (verified setting steps) verify_request
-          (certified_again later setting steps wrote.ending.text is.put read (within_both setting exact.max (length steps) sought.0 is.within) is.certifies (cert_there ∙ is.put_is)
+          (certified_again later setting steps wrote.ending.text is.put read (within_both setting exact.max (length steps) sought.0 is.shown.within) is.shown.certifies (cert_there ∙ is.put_is)
           (subst (λ (put : Option (List ℕ)). IfSome put (λ bytes. length bytes ≤ 2 ^ 50)) is.put_is cert_few));
       text_is = is.text_is;
     }

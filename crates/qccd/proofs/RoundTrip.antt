@@ -177,7 +177,7 @@ judged_again work asked found later words check_words circuit trap rule (Some ex
     let setting = setting_of plan.trap plan.circuit plan.placement in
     let ends : EndsSearch setting exact.max exact.budget answers.Ok wrote.ending = subst (λ (w : Work). Ends w answers.Ok wrote.ending) (sought_work setting exact done plan.continues).1 wrote.done.ends in
     let is = least_written setting exact.max exact.budget wrote.ending ends in
-    judged_by work asked found later check_words rule next done plan is.schedule wrote.ending.text comes check_request is.least.plays is.text_is there few
+    judged_by work asked found later check_words rule next done plan is.schedule wrote.ending.text comes check_request is.shown.least.plays is.text_is there few
 
 pub judged_legal : (found later : Found) (words check_words : List (List ℕ)) (circuit trap circuit_again trap_again schedule : List ℕ) (rule : PlaceRule) (exact : Option Search) (before now : Devices)
     → request_of words ≡ Some (compile circuit trap rule exact) → request_of check_words ≡ Some (check circuit_again trap_again schedule)

@@ -34,7 +34,7 @@ end_of (loaded seed) answer ending ends = inl ends.0
 
 answers_work : (work : Work) (answer : Answer) (ending : Ending) → Ends work answer ending → AnswersWork work answer
 answers_work (make setting) answer ending ends = ends.0
-answers_work (fewest setting max budget) answer ending (inl least) = inl (least.0, record { schedule = least.1.schedule; plays = least.1.least.plays; within = least.1.within })
+answers_work (fewest setting max budget) answer ending (inl least) = inl (least.0, record { schedule = least.1.schedule; plays = least.1.shown.least.plays; within = least.1.shown.within })
 answers_work (fewest setting max budget) answer ending (inr (inl none)) = inr (inl (none.0, none.1.none))
 answers_work (fewest setting max budget) answer ending (inr (inr spent)) = inr (inr (spent.0, spent.1.few))
 answers_work (judged setting steps) answer ending ends = ends.0

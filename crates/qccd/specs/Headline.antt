@@ -12,14 +12,13 @@ use Rattle.placement.specs.Placing.{Table, place_by}
 use Rattle.step_rules.specs.declared.action.Action.{Action}
 use Rattle.step_rules.specs.declared.action.Action.TheVariants as actions
 use Rattle.step_rules.specs.Setting.{SettingValue, setting_of}
-use Rattle.step_rules.specs.Play.{Plays, IsLeast}
+use Rattle.step_rules.specs.Play.{Plays}
 use Rattle.schedule_text.specs.Text.{op_line, action_line, schedule_text}
-use Rattle.step_vars.specs.Certifies.{Certifies}
 use Rattle.request_words.specs.Request.{Search}
 use Rattle.run_stages.specs.Found.{Found}
 use Rattle.run_stages.specs.Prepare.{CircuitOf, TrapOf}
 use Rattle.run_stages.specs.declared.ending.Ending.{Ending}
-use Rattle.run_stages.specs.Exact.{RefutesFewerByFresh, IsNoneFound, IsBudgetSpent}
+use Rattle.run_stages.specs.Exact.{IsLeastShown, IsNoneFound, IsBudgetSpent}
 use Rattle.qccd.specs.Run.{Devices, Holds}
 
 -- the line of an operation: its zone, its number, the ions on which the placement puts its qubits, and its text
@@ -27,15 +26,11 @@ abbrev pub line_with_ions : TrapValue → CircuitValue → List (List Qubit) →
 line_with_ions trap circuit placement zone number op =
     codes "op " ++ place_text trap zone.0 ++ codes " " ++ op_line circuit placement number.0 op
 
--- No schedule that plays has fewer steps, and it has at most as many as were asked for. What was put under the
--- name of the certificate certifies that, by fresh lines, no more than the budget.
+-- what was put under the name of the certificate shows that no schedule that plays has fewer steps
 pub record IsCertified (setting : SettingValue) (schedule : List (List Action)) (exact : Search)
     (before now : Devices) : Type 0 where
-  pub least : IsLeast setting schedule
-  pub within : length schedule ≤ exact.max
   pub cert : List ℕ
-  pub certifies : Certifies setting cert (length schedule)
-  pub fresh : RefutesFewerByFresh setting (length schedule) exact.budget cert
+  pub shown : IsLeastShown setting exact.max exact.budget schedule cert
   pub holds : Holds before.shelf now.shelf (Some exact.cert) (Some cert)
 
 -- the same in exact mode; else nothing is claimed of other schedules

@@ -94,13 +94,15 @@ least_ends certify setting max budget schedule log axioms lines ending few found
   ends.answer_is,
   record {
     schedule = schedule;
-    least = found.least;
-    within = found.within;
     text_is = ends.text_is;
     put = certificate_text (head_of Counter (asked (length schedule))) axioms (first_lines log axioms lines);
     put_is = ends.put_is;
-    certifies = certify setting (length schedule) log axioms lines (omega (arith, few, found.within)) found.fewer;
-    fresh = fewer_by_fresh setting (length schedule) budget log axioms lines found.fewer found.few;
+    shown = record {
+      least = found.least;
+      within = found.within;
+      certifies = certify setting (length schedule) log axioms lines (omega (arith, few, found.within)) found.fewer;
+      fresh = fewer_by_fresh setting (length schedule) budget log axioms lines found.fewer found.few;
+    };
   },
 )
 

@@ -55,17 +55,22 @@ pub record LeavesOpen (setting : SettingValue) (max budget : ℕ) (bytes : List 
 
 -- ---- what is put and written
 
--- The text of a schedule of at most max steps is written, and none that plays has fewer. What is put
--- certifies that, by fresh lines, no more than the budget.
-pub record IsLeastWritten (setting : SettingValue) (max budget : ℕ) (ending : Ending) : Type 0 where
-  pub schedule : List (List Action)
+-- No schedule that plays has fewer steps, and it has at most max. The bytes certify that, by fresh lines, no more
+-- than the budget.
+pub record IsLeastShown (setting : SettingValue) (max budget : ℕ) (schedule : List (List Action)) (bytes : List ℕ)
+    : Type 0 where
   pub least : IsLeast setting schedule
   pub within : length schedule ≤ max
+  pub certifies : Certifies setting bytes (length schedule)
+  pub fresh : RefutesFewerByFresh setting (length schedule) budget bytes
+
+-- the text of a schedule is written, and what is put shows that none that plays has fewer steps
+pub record IsLeastWritten (setting : SettingValue) (max budget : ℕ) (ending : Ending) : Type 0 where
+  pub schedule : List (List Action)
   pub text_is : ending.text ≡ schedule_text setting schedule
   pub put : List ℕ
   pub put_is : ending.put ≡ Some put
-  pub certifies : Certifies setting put (length schedule)
-  pub fresh : RefutesFewerByFresh setting (length schedule) budget put
+  pub shown : IsLeastShown setting max budget schedule put
 
 -- no schedule of at most max steps plays, and what is put refutes that one does; nothing is written
 pub record IsNoneFound (setting : SettingValue) (max budget : ℕ) (ending : Ending) : Type 0 where
