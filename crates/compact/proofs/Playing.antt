@@ -11,9 +11,9 @@ use Rattle.step_rules.specs.declared.action.Action.{Action}
 use Rattle.step_rules.specs.declared.action.Action.TheVariants as kinds
 use Rattle.step_rules.specs.Placement.{start_of}
 use Rattle.step_rules.specs.Setting.{SettingValue}
-use Rattle.step_rules.specs.Play.{AreLegal, PerformsIn, Plays, performs, actions_of, one_at_a_time}
+use Rattle.step_rules.specs.Play.{AreLegal, PerformsIn, Plays, performs, actions_of, one_at_a_time, AreInOrder}
 use Rattle.step_rules.specs.Tight.{AreOrdered}
-use Rattle.compact.specs.Tightened.{with_time, AreSpread, IsRearranged, IsSerial, AreInOrder}
+use Rattle.compact.specs.Tightened.{with_time, AreSpread, IsRearranged, IsSerial}
 use Rattle.compact.specs.Latest.{IsAt}
 use Rattle.compact.proofs.Places.{contains_at, at_contains, some_at}
 use Rattle.compact.proofs.Spreading.{in_its_step, from_its_step}

@@ -14,8 +14,7 @@ use Rattle.step_rules.specs.declared.action.Action.TheVariants as kinds
 use Rattle.step_rules.specs.Setting.{SettingValue}
 use Rattle.step_rules.specs.Guards.{Passes}
 use Rattle.step_rules.specs.Steps.{after, after_step}
-use Rattle.step_rules.specs.Play.{AreLegal, PerformsIn, after_steps, one_at_a_time, performs}
-use Rattle.compact.specs.Tightened.{AreInOrder}
+use Rattle.step_rules.specs.Play.{AreLegal, PerformsIn, after_steps, one_at_a_time, performs, AreInOrder}
 use Rattle.compact.specs.Orders.{Precedes, IsPerformedAt}
 use Rattle.compact.proofs.Places.{after_front, contains_at}
 use Rattle.compact.proofs.Carrying.{legal_alone}

@@ -1,17 +1,10 @@
 -- What a list of actions has to meet, and what its tight schedule is.
 use Rattle.std.specs.Prelude.{◌≡◌, ℕ, ◌==◌, ◌<◌, if◌then◌else◌, All, List, [], ◌∷◌, length, slice_get, Some}
-use Rattle.circuit_core.specs.Circuit.{CircuitValue}
-use Rattle.circuit_core.specs.Order.{Forced}
 use Rattle.step_rules.specs.declared.action.Action.{Action}
 use Rattle.step_rules.specs.Placement.{start_of}
 use Rattle.step_rules.specs.Setting.{SettingValue}
-use Rattle.step_rules.specs.Play.{AreLegal, PerformsIn, one_at_a_time}
+use Rattle.step_rules.specs.Play.{AreInOrder, AreLegal, one_at_a_time}
 use Rattle.step_rules.specs.Tight.{Conflict}
-
--- an operation is performed in an earlier step than those that it has to come before
-abbrev pub AreInOrder : CircuitValue → List (List Action) → Type 0
-AreInOrder circuit steps =
-    (i j : ℕ) → Forced circuit i j → (s t : ℕ) → PerformsIn steps i s → PerformsIn steps j t → s < t
 
 -- Played one after another from the placement, each action passes its guards, and forced operations are in order.
 pub record IsSerial (setting : SettingValue) (actions : List Action) : Type 0 where

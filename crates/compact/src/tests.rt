@@ -2,8 +2,7 @@
 
 ghost use Rattle.std.specs.Prelude.{ℕ, ◌<◌, ◌↔◌, length, IsTrue, All, IfOk};
 ghost use Rattle.step_rules.specs.Placement.{IsPlacement, start_of};
-ghost use Rattle.step_rules.specs.Play.{AreLegal, one_at_a_time};
-ghost use Rattle.compact.specs.Tightened.{AreInOrder};
+ghost use Rattle.step_rules.specs.Play.{AreInOrder, AreLegal, one_at_a_time};
 ghost use Rattle.compact.specs.Orders.{IsPerformedAt, Precedes};
 ghost use Rattle.circuit_core.specs.Order.{Forced};
 

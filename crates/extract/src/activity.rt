@@ -2,13 +2,11 @@
 
 ghost use Rattle.std.specs.Prelude.{◌≡◌};
 ghost use Rattle.step_facts.specs.Activities.{item_of};
-ghost use Rattle.step_facts.specs.ToSchedule.{action_through as action_through_of};
 ghost use Rattle.extract.specs.Reading.{seen};
 
 use qc_base::{Ion, OpId, PlaceId};
-use step_rules::Action;
 use step_vars::Item;
-use trap_model::{Channel, Kind};
+use trap_model::Channel;
 
 /// What can happen in a step.
 #[derive(Clone, Copy, Debug, PartialEq, Eq)]
@@ -47,37 +45,5 @@ impl Activity {
                 step,
             },
         }
-    }
-}
-
-/// The action that passes so many ions through a channel.
-pub fn action_through(channel: &Channel, count: u32) -> Action
-    ensures { result ≡ action_through_of channel.now count }
-{
-    match channel.kind {
-        Kind::Split => Action::Split {
-            zone: channel.from,
-            end: channel.from_end,
-            count,
-        },
-        Kind::Move => Action::Move {
-            from: channel.from,
-            to: channel.to,
-        },
-        Kind::Cross => match channel.junction {
-            Some(junction) => Action::Cross {
-                junction,
-                from: channel.from,
-                to: channel.to,
-            },
-            None => Action::Move {
-                from: channel.from,
-                to: channel.to,
-            },
-        },
-        Kind::Merge => Action::Merge {
-            zone: channel.to,
-            end: channel.to_end,
-        },
     }
 }

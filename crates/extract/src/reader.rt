@@ -5,7 +5,7 @@ ghost use Rattle.step_vars.specs.Items.{time_of};
 ghost use Rattle.step_facts.specs.ToSchedule.{passing_count as passing_count_of, action_of, happens};
 ghost use Rattle.extract.specs.Reading.{CanRead, facts_in, lists_in, place_in, seen, actions_in};
 
-use crate::activity::{Activity, action_through};
+use crate::activity::Activity;
 use crate::chains::index_of_pair;
 use qc_base::{Ion, NoMemory, OpId, PlaceId};
 use sat_base::Assignment;
@@ -65,7 +65,7 @@ impl<'a> Reader<'a> {
         match *activity {
             Activity::Passage { number, channel } => {
                 let ions = self.config.list(channel.from);
-                action_through(&channel, self.passing_count(number, ions))
+                Action::through(&channel, self.passing_count(number, ions))
             }
             Activity::Exchange {
                 first,

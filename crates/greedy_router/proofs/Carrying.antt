@@ -1,5 +1,5 @@
 -- One ion goes through one channel after another.
-use Rattle.std.proofs.Common.{◌≡◌, ◌≢◌, ℕ, zero, suc, ◌<◌, ◌≤◌, cond, ◌&&◌, List, [], ◌∷◌, length, get_or, Some, None, refl, sym, ap, subst, ◌∙◌, inl, inr, arith, get_or-set_same, get_or-set_other}
+use Rattle.std.proofs.Common.{◌≡◌, ◌≢◌, ℕ, true, zero, suc, ◌<◌, ◌≤◌, cond, ◌&&◌, List, [], ◌∷◌, length, get_or, Some, None, refl, sym, ap, subst, ◌∙◌, inl, inr, arith, get_or-set_same, get_or-set_other}
 use Rattle.std.specs.Prelude.{Option, IsSome, slice_get, slice_set, ◌==◌}
 use Rattle.std.specs.Option.{option_map}
 use Rattle.std.proofs.lemmas.Bool.{cases_eq, cases_lt, eq-eqb, false≢true}
@@ -12,16 +12,12 @@ use Rattle.qc_base.specs.declared.ids.JunctionId.{JunctionId}
 use Rattle.trap_model.specs.Trap.{TrapValue}
 use Rattle.trap_model.specs.Build.{IsTrap}
 use Rattle.trap_model.specs.Joins.{joined_slot}
-use Rattle.trap_model.specs.Channels.{channels_of, channel_at, number_by, split, split_channel, move_channel, cross_channel, merge_channel}
+use Rattle.trap_model.specs.Channels.{channels_of, split, split_channel}
 use Rattle.trap_model.specs.declared.channel.Channel.{Channel}
 use Rattle.trap_model.specs.declared.channel.Kind.{Kind}
 use Rattle.trap_model.specs.declared.channel.Kind.TheVariants as channel_kinds
 use Rattle.trap_model.specs.declared.port.SlotEnd.{SlotEnd}
-use Rattle.trap_model.proofs.Docks.{split_leads, merge_leads}
-use Rattle.trap_model.proofs.Moves.{move_leads}
-use Rattle.trap_model.proofs.Crosses.{cross_leads}
 use Rattle.trap_model.proofs.ReadTables.{no_joined}
-use Rattle.trap_model.proofs.Numbers.{own_number}
 use Rattle.ion_chain.specs.Passing.{leaving, left, joined}
 use Rattle.ion_chain.specs.Transfer.{list_at, after_transfer}
 use Rattle.ion_chain.proofs.Passed.{length-left}
@@ -31,16 +27,17 @@ use Rattle.route_find.proofs.Following.{followed_less}
 use Rattle.step_rules.specs.declared.action.Action.{Action}
 use Rattle.step_rules.specs.declared.action.Action.TheVariants as kinds
 use Rattle.step_rules.specs.Setting.{SettingValue}
-use Rattle.step_rules.specs.ActionChannel.{channel_for, passing, transfer, IsWithin}
+use Rattle.step_rules.specs.ActionChannel.{channel_for, action_by, action_through, passing, transfer, IsWithin}
 use Rattle.step_rules.specs.Guards.{Passes}
 use Rattle.step_rules.specs.Steps.{after}
 use Rattle.step_rules.proofs.Moved.{after_through as after_any}
 use Rattle.step_rules.proofs.Kept.{channel_within}
+use Rattle.step_rules.proofs.Leading.{leads_through}
 use Rattle.greedy_router.specs.declared.played.Played.{Played}
 use Rattle.greedy_router.specs.Serial.{IsSingle}
 use Rattle.greedy_router.specs.declared.traffic.Traffic.{Traffic}
 use Rattle.greedy_router.specs.Places.{count_of, one_if, one_if_both, home_of, IsInZone, AreHomes, IsMoved, IsCalm, OthersHaveFree}
-use Rattle.greedy_router.specs.Traffic.{IsPlayed, MayTravel, Acts, Carries, Brings, CanPass, IsTraffic, Travels}
+use Rattle.greedy_router.specs.Traffic.{IsPlayed, MayTravel, Acts, carries, Carries, Brings, CanPass, IsTraffic, Travels}
 use Rattle.greedy_router.proofs.Counts.{one_same, one_apart, leaves_alone}
 use Rattle.greedy_router.proofs.Moves.{moved_none, moved_then, moved_through, homes_moved}
 use Rattle.greedy_router.proofs.Passing.{passes_through, after_through, ends_apart}
@@ -49,49 +46,30 @@ use Rattle.greedy_router.proofs.Travelling.{goes_then}
 
 -- ---- the action of a channel
 
-own_by : (trap : TrapValue) (number : ℕ) (channel : Channel) (kind : Kind) → IsTrap trap → slice_get (channels_of trap) number ≡ Some channel → channel.kind ≡ kind → number_by trap kind channel.junction channel ≡ Some number
-own_by trap number channel kind sound at is = subst (λ (k : Kind). number_by trap k channel.junction channel ≡ Some number) is (own_number trap number channel sound at)
-
 -- the channel as it is read
 pub read_there : (trap : TrapValue) (number : ℕ) (channels : List Channel) (d : Channel) → channels ≡ channels_of trap → number < length (channels_of trap) → slice_get (channels_of trap) number ≡ Some (get_or channels number d)
 read_there trap number channels d is within = ap (λ (l : List Channel). slice_get l number) (sym is) ∙ slice_get-get_or channels number d (omega (arith, within, ap length is))
 
-pub split_read : (trap : TrapValue) (number : ℕ) (channels : List Channel) (d : Channel) → IsTrap trap → channels ≡ channels_of trap → number < length (channels_of trap) → (get_or channels number d).kind ≡ channel_kinds.Split
-    → split_channel trap (get_or channels number d).from.0 (get_or channels number d).from_end ≡ slice_get (channels_of trap) number
-split_read trap number channels d sound is within kind =
-    let it : Channel = get_or channels number d in
-    sym (split_leads trap it.from.0 it.from_end) ∙ ap (channel_at trap) (own_by trap number it channel_kinds.Split sound (read_there trap number channels d is within) kind)
+-- the action of a channel that is read leads through it
+pub leads_read : (trap : TrapValue) (number : ℕ) (channels : List Channel) (d : Channel) → IsTrap trap → channels ≡ channels_of trap → number < length (channels_of trap)
+    → channel_for trap (action_through (get_or channels number d) 1) ≡ slice_get (channels_of trap) number
+leads_read trap number channels d sound is within =
+    let there = read_there trap number channels d is within in
+    leads_through trap number 1 (get_or channels number d) sound there ∙ sym there
 
-pub move_read : (trap : TrapValue) (number : ℕ) (channels : List Channel) (d : Channel) → IsTrap trap → channels ≡ channels_of trap → number < length (channels_of trap) → (get_or channels number d).kind ≡ channel_kinds.Move
-    → move_channel trap (get_or channels number d).from.0 (get_or channels number d).to.0 ≡ slice_get (channels_of trap) number
-move_read trap number channels d sound is within kind =
-    let it : Channel = get_or channels number d in
-    sym (move_leads trap it.from.0 it.to.0) ∙ ap (channel_at trap) (own_by trap number it channel_kinds.Move sound (read_there trap number channels d is within) kind)
+pub carries_by : (kind : Kind) (crossed : Option JunctionId) (channel : Channel) → carries (action_by kind crossed channel 1) ≡ true
+carries_by channel_kinds.Split crossed channel = refl
+carries_by channel_kinds.Move crossed channel = refl
+carries_by channel_kinds.Cross None channel = refl
+carries_by channel_kinds.Cross (Some junction) channel = refl
+carries_by channel_kinds.Merge crossed channel = refl
 
-pub cross_read : (trap : TrapValue) (number : ℕ) (channels : List Channel) (d : Channel) (junction : JunctionId) → IsTrap trap → channels ≡ channels_of trap → number < length (channels_of trap) → (get_or channels number d).kind ≡ channel_kinds.Cross
-    → (get_or channels number d).junction ≡ Some junction → cross_channel trap junction.0 (get_or channels number d).from.0 (get_or channels number d).to.0 ≡ slice_get (channels_of trap) number
-cross_read trap number channels d junction sound is within kind through =
-    let it : Channel = get_or channels number d in
-    let own : number_by trap channel_kinds.Cross (Some junction) it ≡ Some number =
-    subst (λ (j : Option JunctionId). number_by trap channel_kinds.Cross j it ≡ Some number) through (own_by trap number it channel_kinds.Cross sound (read_there trap number channels d is within) kind) in
-    sym (cross_leads trap junction.0 it.from.0 it.to.0) ∙ ap (channel_at trap) own
-
-pub merge_read : (trap : TrapValue) (number : ℕ) (channels : List Channel) (d : Channel) → IsTrap trap → channels ≡ channels_of trap → number < length (channels_of trap) → (get_or channels number d).kind ≡ channel_kinds.Merge
-    → merge_channel trap (get_or channels number d).to.0 (get_or channels number d).to_end ≡ slice_get (channels_of trap) number
-merge_read trap number channels d sound is within kind =
-    let it : Channel = get_or channels number d in
-    sym (merge_leads trap it.to.0 it.to_end) ∙ ap (channel_at trap) (own_by trap number it channel_kinds.Merge sound (read_there trap number channels d is within) kind)
-
-crossed : (trap : TrapValue) (junction : Option JunctionId) (channel : Channel) (number : ℕ) → number_by trap channel_kinds.Cross junction channel ≡ Some number → IsSome junction
-crossed trap None channel number e = absurd (none-some number e)
-crossed trap (Some junction) channel number e = refl
-
--- a crossing has a junction
-pub junction_read : (trap : TrapValue) (number : ℕ) (channels : List Channel) (d : Channel) → IsTrap trap → channels ≡ channels_of trap → number < length (channels_of trap) → (get_or channels number d).kind ≡ channel_kinds.Cross
-    → IsSome (get_or channels number d).junction
-junction_read trap number channels d sound is within kind =
-    let it : Channel = get_or channels number d in
-    crossed trap it.junction it number (own_by trap number it channel_kinds.Cross sound (read_there trap number channels d is within) kind)
+pub single_by : (kind : Kind) (crossed : Option JunctionId) (channel : Channel) → IsSingle (action_by kind crossed channel 1)
+single_by channel_kinds.Split crossed channel = refl
+single_by channel_kinds.Move crossed channel = tt
+single_by channel_kinds.Cross None channel = tt
+single_by channel_kinds.Cross (Some junction) channel = tt
+single_by channel_kinds.Merge crossed channel = tt
 
 -- ---- through one channel
 

@@ -15,7 +15,7 @@ use crate::played::Played;
 use qc_base::{End, Ion, NoMemory, PlaceId};
 use route_find::Distances;
 use step_rules::{Action, Setting};
-use trap_model::{Kind, Trap};
+use trap_model::Trap;
 
 // The index of an ion that is among these.
 fn index_of(ions: &[Ion], ion: Ion) -> u32
@@ -104,27 +104,7 @@ fn action_through(trap: &Trap, number: u32) -> Action
     ensures carries { carries result ≡ true }
     ensures single { IsSingle result }
 {
-    let channel = trap.channels()[number as usize];
-    match channel.kind {
-        Kind::Split => Action::Split {
-            zone: channel.from,
-            end: channel.from_end,
-            count: 1,
-        },
-        Kind::Move => Action::Move {
-            from: channel.from,
-            to: channel.to,
-        },
-        Kind::Cross => Action::Cross {
-            junction: channel.junction.unwrap(),
-            from: channel.from,
-            to: channel.to,
-        },
-        Kind::Merge => Action::Merge {
-            zone: channel.to,
-            end: channel.to_end,
-        },
-    }
+    Action::through(&trap.channels()[number as usize], 1)
 }
 
 // One ion goes through the channel of that number.

@@ -24,14 +24,14 @@ use Rattle.trap_model.proofs.Within.{channels_within}
 use Rattle.trap_model.proofs.Known.{position_at}
 use Rattle.step_rules.specs.declared.action.Action.{Action}
 use Rattle.step_rules.specs.Setting.{SettingValue}
-use Rattle.step_rules.specs.ActionChannel.{channel_for, passing}
+use Rattle.step_rules.specs.ActionChannel.{channel_for, passing, action_through, action_by}
 use Rattle.step_rules.specs.Steps.{place, junction, footprint, Spot}
 use Rattle.step_rules.specs.declared.action.Action.TheVariants as actions
 use Rattle.step_rules.proofs.Effects.{moving_ends, crossing_ends}
+use Rattle.step_rules.proofs.Leading.{leads_through}
 use Rattle.step_vars.specs.Lists.{touches}
 use Rattle.step_facts.specs.Facts.{IsChannel}
 use Rattle.step_facts.specs.OfSchedule.{channel_number}
-use Rattle.step_facts.specs.ToSchedule.{action_through, action_by}
 use Rattle.step_facts.proofs.Lists.{Contains-cons}
 use Rattle.step_facts.proofs.ChannelEnds.{channel_between}
 
@@ -82,8 +82,7 @@ through_number setting c channel count sound is = number_by_kind setting.trap ch
 
 pub through_channel : (setting : SettingValue) (c : ℕ) (channel : Channel) (count : ℕ) → IsTrap setting.trap → IsChannel setting c channel
     → channel_for setting.trap (action_through channel count) ≡ Some channel
-through_channel setting c channel count sound is =
-    sym (leads setting.trap (action_through channel count)) ∙ ap (channel_at setting.trap) (through_number setting c channel count sound is) ∙ is
+through_channel setting c channel count sound is = leads_through setting.trap c count channel sound is
 
 passing_by : (kind : Kind) (crossed : Option JunctionId) (channel : Channel) (count : ℕ) (ions : List Ion)
     → passing (action_by kind crossed channel count) ions ≡ (if splits kind then count else length ions)

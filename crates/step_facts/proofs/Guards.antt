@@ -25,7 +25,7 @@ use Rattle.trap_model.specs.declared.channel.Kind.TheVariants.{Split, Move, Cros
 use Rattle.ion_chain.specs.Passing.{outward, leaving, left}
 use Rattle.ion_chain.specs.Transfer.{list_at}
 use Rattle.step_rules.specs.Setting.{SettingValue}
-use Rattle.step_rules.specs.ActionChannel.{passing, channel_for}
+use Rattle.step_rules.specs.ActionChannel.{passing, channel_for, action_by}
 use Rattle.step_rules.specs.Guards.{Passes, first_broken, is_empty, is_slot, is_junction, is_count_of, is_among, split_guards, move_guards, cross_guards, merge_guards, is_able_for, are_among}
 use Rattle.step_rules.specs.declared.action.Rule.{Rule}
 use Rattle.step_rules.specs.declared.action.Rule.TheVariants as rules
@@ -38,7 +38,7 @@ use Rattle.step_facts.specs.Facts.{Facts, IsAt, IsUsed, AreSwapped, IsPerformedI
 use Rattle.step_facts.specs.Activities.{Activity, passage, exchange, operation, IsActivity, item_of, activities_of}
 use Rattle.step_facts.specs.Run.{IsSetting, IsStep}
 use Rattle.step_facts.specs.OfSchedule.{are_neighbours}
-use Rattle.step_facts.specs.ToSchedule.{action_of, index_of_pair, passing_count, step_of, action_by, happens, happening}
+use Rattle.step_facts.specs.ToSchedule.{action_of, index_of_pair, passing_count, step_of, happens, happening}
 use Rattle.step_facts.specs.Agreement.{IsSound, Agrees, AreDistinct}
 use Rattle.step_facts.proofs.Lists.{Contains-filter, Contains-range, list_any-some, how_many-filter}
 use Rattle.step_facts.proofs.IonLists.{IsClosed, there-outward, before-there_first, before-there_second, before-reverse, there-filter, distinct-filter, length-there, none_there}

@@ -20,6 +20,7 @@ use Rattle.trap_model.specs.declared.channel.Channel.{Channel}
 use Rattle.trap_model.specs.declared.channel.Kind.{Kind}
 use Rattle.trap_model.specs.declared.channel.Kind.TheVariants.{Split, Move, Cross, Merge}
 use Rattle.ion_chain.specs.Transfer.{list_at}
+use Rattle.step_rules.specs.ActionChannel.{action_by}
 use Rattle.step_rules.specs.declared.action.Action.{Action}
 use Rattle.step_rules.specs.Placement.{ion_of, start_of}
 use Rattle.step_rules.specs.Setting.{SettingValue}
@@ -31,7 +32,7 @@ use Rattle.step_facts.specs.Facts.{Facts, IsAt, IsDone, IsPerformedIn}
 use Rattle.step_facts.specs.Activities.{Activity, passage, exchange, operation, IsActivity, item_of, activities_of}
 use Rattle.step_facts.specs.Properties.{IsPerformed, OnePlace, IonsAreInZone}
 use Rattle.step_facts.specs.Run.{IsSetting, IsStep, IsRun}
-use Rattle.step_facts.specs.ToSchedule.{action_by, action_of, happens, happening, passing_count, step_of, steps_from, schedule_of}
+use Rattle.step_facts.specs.ToSchedule.{action_of, happens, happening, passing_count, step_of, steps_from, schedule_of}
 use Rattle.step_facts.proofs.Lists.{Contains-filter, AreDifferent-filter, list_any-found, at_most_one-from, exactly_one, how_many-append, how_many-map, how_many-some, how_many_pass}
 use Rattle.step_facts.proofs.Bounds.{there-activity, different_activities}
 use Rattle.step_facts.proofs.Configs.{sound-one_place, sound-start, starts_at-list}

@@ -2,31 +2,17 @@
 -- operations by zone.
 use Rattle.std.specs.Prelude.{ℕ, zero, suc, ◌+◌, ◌==◌, Bool, ◌||◌, if◌then◌else◌, List, [], ◌∷◌, map, filter, Option, None, Some}
 use Rattle.qc_base.specs.declared.ids.Ion.{Ion}
-use Rattle.qc_base.specs.declared.ids.JunctionId.{JunctionId}
 use Rattle.qc_base.specs.Counting.{how_many}
-use Rattle.trap_model.specs.declared.channel.Channel.{Channel}
-use Rattle.trap_model.specs.declared.channel.Kind.{Kind}
-use Rattle.trap_model.specs.declared.channel.Kind.TheVariants.{Split, Move, Cross, Merge}
 use Rattle.ion_chain.specs.Transfer.{list_at}
 use Rattle.step_rules.specs.declared.action.Action.{Action}
 use Rattle.step_rules.specs.declared.action.Action.TheVariants as actions
 use Rattle.step_rules.specs.Placement.{start_of}
 use Rattle.step_rules.specs.Setting.{SettingValue}
+use Rattle.step_rules.specs.ActionChannel.{action_through}
 use Rattle.step_rules.specs.Steps.{after_step}
 use Rattle.step_vars.specs.Items.{leave_item}
 use Rattle.step_facts.specs.Facts.{Facts}
 use Rattle.step_facts.specs.Activities.{Activity, passage, exchange, operation, item_of, activities_of}
-
--- the action that passes so many ions through a channel of that kind; only a crossing has a junction
-abbrev pub action_by : Kind → Option JunctionId → Channel → ℕ → Action
-action_by Split junction channel count = actions.Split channel.from channel.from_end count
-action_by Move junction channel count = actions.Move channel.from channel.to
-action_by Cross (Some junction) channel count = actions.Cross junction channel.from channel.to
-action_by Cross None channel count = actions.Move channel.from channel.to
-action_by Merge junction channel count = actions.Merge channel.to channel.to_end
-
-abbrev pub action_through : Channel → ℕ → Action
-action_through channel count = action_by channel.kind channel.junction channel count
 
 -- the ion passes through channel c in step t
 abbrev pub is_passing : Facts → ℕ → ℕ → Ion → Bool

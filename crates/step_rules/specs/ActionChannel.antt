@@ -1,10 +1,13 @@
--- The channel that the ions of an action go through, and what is at its two ends.
-use Rattle.std.specs.Prelude.{ℕ, ◌<◌, List, [], length, Option, None}
+-- The channel that the ions of an action go through, what is at its two ends, and the action of a channel.
+use Rattle.std.specs.Prelude.{ℕ, ◌<◌, List, [], length, Option, None, Some}
 use Rattle.std.specs.Option.{option_map_or}
 use Rattle.qc_base.specs.declared.ids.Ion.{Ion}
+use Rattle.qc_base.specs.declared.ids.JunctionId.{JunctionId}
 use Rattle.trap_model.specs.Trap.{TrapValue, limit_of, place_count}
 use Rattle.trap_model.specs.Channels.{split_channel, move_channel, cross_channel, merge_channel}
 use Rattle.trap_model.specs.declared.channel.Channel.{Channel}
+use Rattle.trap_model.specs.declared.channel.Kind.{Kind}
+use Rattle.trap_model.specs.declared.channel.Kind.TheVariants.{Split, Move, Cross, Merge}
 use Rattle.ion_chain.specs.declared.transfer.Transfer.{Transfer}
 use Rattle.ion_chain.specs.Transfer.{list_at}
 use Rattle.step_rules.specs.declared.action.Action.{Action}
@@ -18,6 +21,17 @@ channel_for trap (actions.Cross junction from to) = cross_channel trap junction.
 channel_for trap (actions.Merge zone end) = merge_channel trap zone.0 end
 channel_for trap (actions.Swap zone index) = None
 channel_for trap (actions.Op zone op) = None
+
+-- the action that passes so many ions through a channel of that kind; only a crossing has a junction
+abbrev pub action_by : Kind → Option JunctionId → Channel → ℕ → Action
+action_by Split junction channel count = actions.Split channel.from channel.from_end count
+action_by Move junction channel count = actions.Move channel.from channel.to
+action_by Cross (Some junction) channel count = actions.Cross junction channel.from channel.to
+action_by Cross None channel count = actions.Move channel.from channel.to
+action_by Merge junction channel count = actions.Merge channel.to channel.to_end
+
+abbrev pub action_through : Channel → ℕ → Action
+action_through channel count = action_by channel.kind channel.junction channel count
 
 -- the ions of the place where the channel begins
 abbrev pub source : List (List Ion) → Option Channel → List Ion

@@ -1,17 +1,18 @@
 //! What the rules say of all traps, configurations and steps.
 
-ghost use Rattle.std.specs.Prelude.{◌≡◌, ℕ, ◌<◌, List, length, All, AllPairs, Contains, IsPermutation, Some, Ok};
+ghost use Rattle.std.specs.Prelude.{◌≡◌, ℕ, ◌<◌, List, length, All, AllPairs, Contains, IsPermutation, slice_get, Some, Ok};
 ghost use Rattle.qc_base.specs.declared.ids.Ion.{Ion};
 ghost use Rattle.qc_base.specs.declared.ids.Qubit.{Qubit};
 ghost use Rattle.circuit_core.specs.Circuit.{CircuitValue, IsCircuit, qubit_count};
 ghost use Rattle.trap_model.specs.Trap.{TrapValue};
 ghost use Rattle.trap_model.specs.Build.{IsTrap};
+ghost use Rattle.trap_model.specs.Channels.{channels_of};
 ghost use Rattle.trap_model.specs.declared.channel.Channel.{Channel};
 ghost use Rattle.ion_chain.specs.Transfer.{list_at};
 ghost use Rattle.step_rules.specs.declared.action.Action.{Action};
 ghost use Rattle.step_rules.specs.Setting.{SettingValue};
 ghost use Rattle.step_rules.specs.Placement.{IsPlacement, placement_of, reading_order, ions_from, start_of};
-ghost use Rattle.step_rules.specs.ActionChannel.{channel_for, IsWithin};
+ghost use Rattle.step_rules.specs.ActionChannel.{channel_for, action_through, IsWithin};
 ghost use Rattle.step_rules.specs.Guards.{Passes, PassesTransport, guards, transport_guards};
 ghost use Rattle.step_rules.specs.Steps.{place, footprint, Agree, AreApart, IsLegal, after, after_step};
 ghost use Rattle.step_rules.specs.Config.{IsWithinLimits, IsKept, all_ions};
@@ -60,6 +61,13 @@ pub fn actions_stay_in_the_footprint()
         → channel_for trap action ≡ Some channel → Contains (footprint trap action) (place channel.to.0) }
     ensures within { (trap : TrapValue) (action : Action) (channel : Channel)
         → IsTrap trap → channel_for trap action ≡ Some channel → IsWithin trap channel }
+{}
+
+/// The action of a channel leads through it.
+pub fn actions_lead_through_their_channels()
+    ensures { (trap : TrapValue) (number count : ℕ) (channel : Channel) → IsTrap trap
+        → slice_get (channels_of trap) number ≡ Some channel
+        → channel_for trap (action_through channel count) ≡ Some channel }
 {}
 
 /// An action that passes its guards still passes them after actions that work on nothing it works on.
