@@ -1,4 +1,5 @@
 pub mod Tightened
+-- ---- working notions of private functions
 pub mod Latest
 pub mod Levels
 pub mod Orders

@@ -7,6 +7,7 @@ pub mod Operations
 pub mod Registers
 pub mod Program
 pub mod Origins
+-- ---- working notions of private functions
 pub mod RegisterLimits
 pub mod Nodes
 pub mod WorkList

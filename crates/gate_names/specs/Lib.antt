@@ -5,6 +5,7 @@ pub mod Entries
 pub mod Library
 pub mod Names
 pub mod Declarations
+pub mod GateOrder
+-- ---- working notions of private functions
 pub mod Noted
 pub mod LibraryRows
-pub mod GateOrder

@@ -1,3 +1,4 @@
 pub mod Ready
 pub mod Keeping
+-- ---- working notions of private functions
 pub mod Changes

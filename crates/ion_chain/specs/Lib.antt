@@ -1,3 +1,3 @@
-pub mod IonRow
+pub mod ChainValue
 pub mod Passing
 pub mod Transfer

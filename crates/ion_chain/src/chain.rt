@@ -1,7 +1,7 @@
 //! The ions of one place.
 
 ghost use Rattle.std.specs.Prelude.{◌≡◌, ◌+◌, ◌≤◌, ◌<◌, [], ◌∷◌, ◌++◌, length, swap, IfOk};
-ghost use Rattle.ion_chain.specs.IonRow.{room_of};
+ghost use Rattle.ion_chain.specs.ChainValue.{room_of};
 ghost use Rattle.ion_chain.specs.Passing.{outward, leaving, left, joined};
 
 use qc_base::{End, Ion, NoMemory};
@@ -18,9 +18,9 @@ pub struct Chain {
 
 impl Model for Chain {
     ghost use Rattle.std.specs.Prelude.{◌-◌, ◌≤◌, length};
-    ghost use Rattle.ion_chain.specs.IonRow.{IonRow};
+    ghost use Rattle.ion_chain.specs.ChainValue.{ChainValue};
 
-    ghost Value = { IonRow };
+    ghost Value = { ChainValue };
 
     ghost view = { λ c. record { ions = c.ions.items; spare = c.ions.capacity - length c.ions.items } };
 

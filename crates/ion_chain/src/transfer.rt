@@ -1,7 +1,7 @@
 //! Chains side by side, one for each place.
 
 ghost use Rattle.std.specs.Prelude.{◌≡◌, ◌≢◌, ◌≤◌, ◌<◌, ℕ, length, map};
-ghost use Rattle.ion_chain.specs.IonRow.{ions_of, room_of, row_at};
+ghost use Rattle.ion_chain.specs.ChainValue.{ions_of, room_of, row_at};
 
 use crate::chain::Chain;
 use qc_base::{End, PlaceId};

@@ -3,4 +3,5 @@ pub mod FirstUse
 pub mod Faults
 pub mod Named
 pub mod Placing
+-- ---- working notions of private functions
 pub mod Orders

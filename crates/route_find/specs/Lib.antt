@@ -1,3 +1,4 @@
 pub mod Walks
 pub mod Distances
+-- ---- working notions of private functions
 pub mod Search

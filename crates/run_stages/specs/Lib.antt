@@ -4,6 +4,7 @@ pub mod Found
 pub mod Stages
 pub mod Prepare
 pub mod Kinds
-pub mod Putting
 pub mod Loading
 pub mod Judging
+-- ---- working notions of private functions
+pub mod Putting

@@ -1,4 +1,5 @@
 pub mod Faults
+-- ---- working notions of private functions
 pub mod Judging
 pub mod Progress
 pub mod Ready

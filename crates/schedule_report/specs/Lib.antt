@@ -1,4 +1,5 @@
 pub mod Counts
 pub mod Report
 pub mod Lines
+-- ---- working notions of private functions
 pub mod Tables

@@ -10,7 +10,7 @@ pub each_more : (P : ℕ → Type 0) (lits : List Literal) (k : ℕ) (lit : Lite
 each_more P lits k lit low is each one =
     subst (EachVariable P) (sym (more_literals lits k lit low is)) (EachVariable-append P (take k lits) (lit ∷ []) each (one, tt))
 
--- a literal of a further variable is put behind
+-- a literal of a further variable is put at the end
 push_distinct : (taken : List Literal) (lit : Literal) → HasDistinctVariables taken → EachVariable (λ var. var ≢ lit.var) taken → HasDistinctVariables (taken ++ lit ∷ [])
 push_distinct [] lit distinct other = (tt, tt)
 push_distinct (x ∷ taken) lit distinct other =

@@ -99,7 +99,7 @@ arrivals_are s r t ions places channels lists e f g h = rw (h, e, f, g) (flat_tw
 
 -- ---- parts of a group of families
 
--- one part more, or two, behind a first one
+-- one part more, or two, after a first one
 pub then_part : {X : Type 0} (old now next first more : List X) → now ≡ old ++ first → next ≡ now ++ more → next ≡ old ++ (first ++ more)
 then_part old now next first more e step = step ∙ ap (λ xs. xs ++ more) e ∙ append_assoc old first more
 

@@ -27,7 +27,7 @@ use Rattle.trap_model.proofs.Rows.{row_of}
 use Rattle.ion_chain.specs.declared.transfer.Transfer.{Transfer}
 use Rattle.ion_chain.specs.Passing.{leaving, left, joined}
 use Rattle.ion_chain.specs.Transfer.{list_at, after_transfer}
-use Rattle.ion_chain.specs.IonRow.{IonRow, ions_of, room_of, row_at}
+use Rattle.ion_chain.specs.ChainValue.{ChainValue, ions_of, room_of, row_at}
 use Rattle.ion_chain.proofs.Rows.{list_at-map, room_at-map}
 use Rattle.ion_chain.proofs.Passed.{length-outward, length-left}
 use Rattle.ion_chain.proofs.Transfers.{list_at-after_transfer}
@@ -287,17 +287,17 @@ any_limit_small trap place sound = elim (cases_lt place (length trap.zones)) [
   | inr slot ↦ omega (arith, slot_limit trap place slot, slot_small trap (slot_at trap place) sound)
 ]
 
-pub record MayPerform (rows : List IonRow) (t : Transfer) : Type 0 where
+pub record MayPerform (rows : List ChainValue) (t : Transfer) : Type 0 where
   pub from : t.from.0 < length rows
   pub to : t.to.0 < length rows
   pub apart : t.from.0 ≢ t.to.0
   pub enough : t.count ≤ length (row_at rows t.from.0).ions
   pub spare : t.count ≤ (row_at rows t.to.0).spare
 
-abbrev pub places_of : List IonRow → ConfigValue
+abbrev pub places_of : List ChainValue → ConfigValue
 places_of rows = record { lists = map ions_of rows; rooms = map room_of rows }
 
-may_transfer : (trap : TrapValue) (rows : List IonRow) (channel : Channel) (count : ℕ) → IsConfigOf trap (places_of rows) → IsWithin trap channel → MayPass trap (map ions_of rows) channel count → MayPerform rows (transfer channel count)
+may_transfer : (trap : TrapValue) (rows : List ChainValue) (channel : Channel) (count : ℕ) → IsConfigOf trap (places_of rows) → IsWithin trap channel → MayPass trap (map ions_of rows) channel count → MayPerform rows (transfer channel count)
 may_transfer trap rows channel count config within may =
     let places : length rows ≡ place_count trap = sym (length-map rows ions_of) ∙ config.places in
     record {
@@ -308,16 +308,16 @@ may_transfer trap rows channel count config within may =
       spare = omega (arith, may.fits, ap length (list_at-map rows channel.to.0), room_at-map rows channel.to.0, config.room channel.to.0 within.to);
     }
 
-pub may_perform : (trap : TrapValue) (rows : List IonRow) (channel : Channel) (count : ℕ) (t : Transfer) → t ≡ transfer channel count → IsConfigOf trap (places_of rows) → IsWithin trap channel → MayPass trap (map ions_of rows) channel count → MayPerform rows t
+pub may_perform : (trap : TrapValue) (rows : List ChainValue) (channel : Channel) (count : ℕ) (t : Transfer) → t ≡ transfer channel count → IsConfigOf trap (places_of rows) → IsWithin trap channel → MayPass trap (map ions_of rows) channel count → MayPerform rows t
 may_perform trap rows channel count t is config within may = subst (MayPerform rows) (sym is) (may_transfer trap rows channel count config within may)
 
 -- ---- a chain with two ions exchanged
 
-pub swapped_lists : (rows : List IonRow) (zone index : ℕ) (row new : IonRow) → zone < length rows → row ≡ slice_index_or rows zone row → new.ions ≡ swap row.ions index (index + 1)
+pub swapped_lists : (rows : List ChainValue) (zone index : ℕ) (row new : ChainValue) → zone < length rows → row ≡ slice_index_or rows zone row → new.ions ≡ swap row.ions index (index + 1)
     → map ions_of (slice_set rows zone new) ≡ slice_set (map ions_of rows) zone (swap (list_at (map ions_of rows) zone) index (index + 1))
 swapped_lists rows zone index row new within read is =
     let old : list_at (map ions_of rows) zone ≡ row.ions = get_or-map ions_of rows zone row [] within ∙ ap ions_of (sym read) in
     map-set ions_of rows zone new ∙ ap (slice_set (map ions_of rows) zone) (is ∙ ap (λ (l : List Ion). swap l index (index + 1)) (sym old))
 
-pub swapped_rooms : (rows : List IonRow) (zone : ℕ) (row new : IonRow) → row ≡ slice_index_or rows zone row → room_of new ≡ room_of row → map room_of (slice_set rows zone new) ≡ map room_of rows
+pub swapped_rooms : (rows : List ChainValue) (zone : ℕ) (row new : ChainValue) → row ≡ slice_index_or rows zone row → room_of new ≡ room_of row → map room_of (slice_set rows zone new) ≡ map room_of rows
 swapped_rooms rows zone row new read same = map-set_same room_of rows zone new row (same ∙ ap room_of read)

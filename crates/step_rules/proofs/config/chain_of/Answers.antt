@@ -1,5 +1,5 @@
 use Rattle.std.proofs.Common.{ap, length, arith, ◌+◌, ◌∷◌, [], length-append}
-use Rattle.ion_chain.specs.IonRow.{ions_of}
+use Rattle.ion_chain.specs.ChainValue.{ions_of}
 use Rattle.step_rules.specs.Placement.{ions_from}
 use Rattle.step_rules.proofs.Ions.{one_more_ion}
 use Rattle.step_rules.proofs.config.chain_of.Goals as goal

@@ -1,5 +1,5 @@
 use Rattle.std.proofs.Common.{◌≡◌, ◌+◌, ◌≤◌, ◌++◌, length, drop}
-use Rattle.ion_chain.specs.IonRow.{ions_of, room_of}
+use Rattle.ion_chain.specs.ChainValue.{ions_of, room_of}
 use Rattle.step_rules.specs.Placement.{ions_from}
 use Rattle.step_rules.proofs.config.chain_of.Given as goal
 

@@ -4,7 +4,7 @@ use Rattle.std.proofs.lemmas.Option.{slice_get_read}
 use Rattle.qc_base.specs.declared.ids.Qubit.{Qubit}
 use Rattle.trap_model.specs.Trap.{limit_of}
 use Rattle.trap_model.specs.declared.parts.ZonePart.{ZonePart}
-use Rattle.ion_chain.specs.IonRow.{IonRow, ions_of, room_of}
+use Rattle.ion_chain.specs.ChainValue.{ChainValue, ions_of, room_of}
 use Rattle.step_rules.specs.Placement.{reading_order, ions_from, places_from}
 use Rattle.step_rules.specs.Config.{HaveRoom}
 use Rattle.step_rules.proofs.Reading.{first_apart}
@@ -31,8 +31,8 @@ loop-zone-preserved c =
     let read : list ≡ get_or lists k list = c.items-qubits.ensures ∙ c.list-item.is ∙ ap (get_or lists k) (sym c.items-qubits.ensures) in
     let within : k < length c.args.trap.now.zones = omega (arith, c.loop-zone-test.true, ap length c.lists-list-items.ensures.lists, c.requires.zones) in
     let limit : limit_of c.args.trap.now k ≡ c.index-zones-zone.result.capacity = limit_read c.args.trap.now c.zones-zones.result.now k c.index-zones-zone.result c.zones-zones.ensures.zones c.index-zones-zone.is within in
-    let rows : List IonRow = c.loop-zone.chains.items in
-    let chain : IonRow = c.in_ok-chain.chain in
+    let rows : List ChainValue = c.loop-zone.chains.items in
+    let chain : ChainValue = c.in_ok-chain.chain in
     let apart : reading_order (drop k lists) ≡ list ++ reading_order (drop (k + 1) lists) = first_apart lists k list c.loop-zone-test.true read in
     let more : limit_of c.args.trap.now k ≤ room_of chain = omega (arith, limit, c.in_ok-chain.ensures.room, ap (λ (z : ZonePart). z.capacity) c.index-zones-zone.is) in
     let grown : c.push.new.self.items ≡ rows ++ chain ∷ [] = c.in_ok-push.ensures.items in
@@ -42,5 +42,5 @@ loop-zone-preserved c =
       count = omega (arith, c.loop-zone.invariant.count, ap length apart, length-append list (reading_order (drop (k + 1) lists)));
       few = c.loop-zone.invariant.few;
       len = omega (arith, ap length grown, length-append rows (chain ∷ []), c.loop-zone.invariant.len);
-      room = subst (λ (l : List IonRow). HaveRoom c.args.trap.now (map room_of l)) (sym grown) (rooms_pushed c.args.trap.now rows chain k c.loop-zone.invariant.len c.loop-zone.invariant.room more);
+      room = subst (λ (l : List ChainValue). HaveRoom c.args.trap.now (map room_of l)) (sym grown) (rooms_pushed c.args.trap.now rows chain k c.loop-zone.invariant.len c.loop-zone.invariant.room more);
     }

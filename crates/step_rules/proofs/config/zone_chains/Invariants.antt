@@ -1,5 +1,5 @@
 use Rattle.std.proofs.Common.{◌≡◌, ◌+◌, ◌<◌, ◌^◌, ◌++◌, length, map, drop}
-use Rattle.ion_chain.specs.IonRow.{ions_of, room_of}
+use Rattle.ion_chain.specs.ChainValue.{ions_of, room_of}
 use Rattle.step_rules.specs.Placement.{reading_order, places_from}
 use Rattle.step_rules.specs.Config.{HaveRoom}
 use Rattle.step_rules.proofs.config.zone_chains.Given as goal

@@ -2,17 +2,17 @@ use Rattle.std.proofs.Common.{◌≡◌, ◌≢◌, ℕ, ◌<◌, List, [], leng
 use Rattle.std.proofs.lemmas.List.{get_or-map, get_or-set_other}
 use Rattle.std.proofs.Math.Seq.{map-set_same}
 use Rattle.ion_chain.specs.declared.transfer.Transfer.{Transfer}
-use Rattle.ion_chain.specs.IonRow.{IonRow, ions_of, room_of}
+use Rattle.ion_chain.specs.ChainValue.{ChainValue, ions_of, room_of}
 use Rattle.ion_chain.specs.Passing.{leaving, left, joined}
 use Rattle.ion_chain.specs.Transfer.{after_transfer}
 use Rattle.ion_chain.proofs.Lists.{map_around, set_around}
 use Rattle.ion_chain.proofs.transfer.Transfer.perform.Goals as goal
 
 -- what is seen of the row that was found at a place
-seen_at : {Y : Type 0} (f : IonRow → Y) (rows : List IonRow) (place : ℕ) (row : IonRow) (blank : Y) → place < length rows → row ≡ slice_index_or rows place row → slice_index_or (map f rows) place blank ≡ f row
+seen_at : {Y : Type 0} (f : ChainValue → Y) (rows : List ChainValue) (place : ℕ) (row : ChainValue) (blank : Y) → place < length rows → row ≡ slice_index_or rows place row → slice_index_or (map f rows) place blank ≡ f row
 seen_at f rows place row blank within found = get_or-map f rows place row blank within ∙ ap f (sym found)
 
-lists_after : (rows : List IonRow) (t : Transfer) (blank source target source' target' : IonRow)
+lists_after : (rows : List ChainValue) (t : Transfer) (blank source target source' target' : ChainValue)
     → t.from.0 ≢ t.to.0 → t.from.0 < length rows → t.to.0 < length rows → source ≡ slice_index_or rows t.from.0 source → target ≡ slice_index_or (slice_set rows t.from.0 blank) t.to.0 target
     → source'.ions ≡ left t.from_end t.count source.ions → target'.ions ≡ joined t.to_end (leaving t.from_end t.count source.ions) target.ions
     → map ions_of (slice_set (slice_set (slice_set rows t.from.0 blank) t.to.0 target') t.from.0 source') ≡ after_transfer (map ions_of rows) t
@@ -22,7 +22,7 @@ lists_after rows t blank source target source' target' apart from_within to_with
     let come_to : slice_index_or (map ions_of rows) t.to.0 [] ≡ target.ions = seen_at ions_of rows t.to.0 target [] to_within there in
     map_around ions_of rows t.from.0 t.to.0 blank source' target' apart ∙ rw (gone_from, come_to, gone, come)
 
-rooms_after : (rows : List IonRow) (from to : ℕ) (blank source target source' target' : IonRow)
+rooms_after : (rows : List ChainValue) (from to : ℕ) (blank source target source' target' : ChainValue)
     → from ≢ to → source ≡ slice_index_or rows from source → target ≡ slice_index_or (slice_set rows from blank) to target
     → room_of source' ≡ room_of source → room_of target' ≡ room_of target
     → map room_of (slice_set (slice_set (slice_set rows from blank) to target') from source') ≡ map room_of rows

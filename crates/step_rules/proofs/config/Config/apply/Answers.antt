@@ -4,7 +4,7 @@ use Rattle.std.proofs.lemmas.List.{length-map}
 use Rattle.qc_base.specs.declared.ids.Ion.{Ion}
 use Rattle.trap_model.specs.Trap.{place_count}
 use Rattle.trap_model.specs.declared.channel.Channel.{Channel}
-use Rattle.ion_chain.specs.IonRow.{IonRow, ions_of}
+use Rattle.ion_chain.specs.ChainValue.{ChainValue, ions_of}
 use Rattle.ion_chain.specs.Transfer.{list_at, after_transfer}
 use Rattle.step_rules.specs.declared.action.Action.{Action}
 use Rattle.step_rules.specs.ActionChannel.{passing, transfer}
@@ -16,7 +16,7 @@ use Rattle.step_rules.proofs.config.Config.apply.Goals as goal
 
 pub returns-in-Swap-clause-lists : goal.returns-in-Swap-clause-lists
 returns-in-Swap-clause-lists c =
-    let rows : List IonRow = c.self.inside.places.items in
+    let rows : List ChainValue = c.self.inside.places.items in
     let zone : ℕ = c.in-Swap.zone.0 in
     let passes = subst (λ (action : Action). first_broken (transport_guards c.args.trap.now c.args.self.now.lists action) ≡ None) c.in-Swap.is c.requires.passes in
     let facts = swap_passed c.args.trap.now c.args.self.now.lists zone c.in-Swap.index passes in
@@ -28,12 +28,12 @@ returns-in-Swap-clause-lists c =
 
 pub returns-in-Swap-clause-rooms : goal.returns-in-Swap-clause-rooms
 returns-in-Swap-clause-rooms c =
-    let rows : List IonRow = c.self.inside.places.items in
+    let rows : List ChainValue = c.self.inside.places.items in
     swapped_rooms rows c.in-Swap.zone.0 c.index_mut.result.now c.swap_at.new.self c.index_mut.ensures.value c.swap_at.ensures.room ∙ ap (λ (p : ConfigValue). p.rooms) c.self.view_is
 
 pub returns-in-Swap-clause-config : goal.returns-in-Swap-clause-config
 returns-in-Swap-clause-config c =
-    let rows : List IonRow = c.self.inside.places.items in
+    let rows : List ChainValue = c.self.inside.places.items in
     let zone : ℕ = c.in-Swap.zone.0 in
     let new : ConfigValue = places_of (slice_set rows zone c.swap_at.new.self) in
     let passes = subst (λ (action : Action). first_broken (transport_guards c.args.trap.now c.args.self.now.lists action) ≡ None) c.in-Swap.is c.requires.passes in
@@ -48,7 +48,7 @@ passing-count-requires c =
 
 pub perform-requires : goal.perform-requires
 perform-requires c =
-    let rows : List IonRow = c.self.inside.places.items in
+    let rows : List ChainValue = c.self.inside.places.items in
     let lists : List (List Ion) = c.args.self.now.lists in
     let channel : Channel = c.in-Some.channel in
     let count : ℕ = c.passing-count.result in
@@ -63,7 +63,7 @@ perform-requires c =
 
 pub returns : goal.returns
 returns c =
-    let rows : List IonRow = c.self.inside.places.items in
+    let rows : List ChainValue = c.self.inside.places.items in
     let lists : List (List Ion) = c.args.self.now.lists in
     let channel : Channel = c.in-Some.channel in
     let count : ℕ = c.passing-count.result in
