@@ -195,7 +195,7 @@ fn tightens(
     assert!(rt; legal);
     let ordered = in_order(&circuit, actions);
     assert!(rt; ordered);
-    let schedule = tighten(alloc, &setting, actions)?;
+    let schedule = tighten(alloc, &trap, &circuit, &placement, actions)?;
     assert!(rt; has_steps(&schedule, steps), "{schedule:?}");
     Ok(())
 }

@@ -2,6 +2,7 @@
 
 ghost use Rattle.std.specs.Prelude.{◌≡◌, ◌≤◌, ◌∷◌, [], ◌++◌, length, IfOk, OnOk};
 ghost use Rattle.step_rules.specs.Placement.{start_of};
+ghost use Rattle.step_rules.specs.Setting.{setting_of};
 ghost use Rattle.step_rules.specs.Play.{AreLegal, Plays, after_steps, one_at_a_time};
 ghost use Rattle.step_rules.specs.Tight.{IsTight};
 ghost use Rattle.compact.specs.Tightened.{IsSerial, IsRearranged};
@@ -9,9 +10,11 @@ ghost use Rattle.compact.specs.Latest.{AreTimes, AreBuilt, put};
 
 use crate::clock::times_of;
 use crate::row::Row;
+use circuit_core::Circuit;
 use qc_base::NoMemory;
 use std::alloc::Global;
-use step_rules::{Action, Schedule, Setting};
+use step_rules::{Action, Placement, Schedule, Setting};
+use trap_model::Trap;
 
 // A step of one action.
 fn row_of(alloc: Global, action: Action) -> Result<Row, NoMemory>
@@ -80,20 +83,33 @@ fn schedule_of(alloc: Global, rows: &[Row]) -> Result<Schedule, NoMemory>
 
 /// The tight schedule of a list of actions: each is in the first step after those of all earlier actions that
 /// conflict with it, and the list's order is kept inside a step. By passes over the list, each in linear time.
-pub fn tighten(alloc: Global, setting: &Setting, actions: &[Action]) -> Result<Schedule, NoMemory>
-    requires { IsSerial setting.now actions.now }
-    ensures tight { IfOk result (λ schedule. IsTight setting.now schedule) }
-    ensures legal { IfOk result
-        (λ schedule. AreLegal setting.now (start_of setting.now.trap setting.now.placement) schedule) }
-    ensures same { IfOk result (λ schedule. IsRearranged setting.now actions.now schedule) }
-    ensures last { let start = start_of setting.now.trap setting.now.placement in IfOk result (λ schedule.
-        after_steps setting.now.trap start schedule ≡ after_steps setting.now.trap start (one_at_a_time actions.now)) }
-    ensures plays { Plays setting.now (one_at_a_time actions.now)
-        → IfOk result (λ schedule. Plays setting.now schedule) }
+pub fn tighten(
+    alloc: Global,
+    trap: &Trap,
+    circuit: &Circuit,
+    placement: &Placement,
+    actions: &[Action],
+) -> Result<Schedule, NoMemory>
+    requires { IsSerial (setting_of trap.now circuit.now placement.now) actions.now }
+    ensures tight { IfOk result
+        (λ schedule. IsTight (setting_of trap.now circuit.now placement.now) schedule) }
+    ensures legal { let setting = setting_of trap.now circuit.now placement.now in
+        IfOk result (λ schedule. AreLegal setting (start_of trap.now placement.now) schedule) }
+    ensures same { IfOk result
+        (λ schedule. IsRearranged (setting_of trap.now circuit.now placement.now) actions.now schedule) }
+    ensures last { let start = start_of trap.now placement.now in IfOk result (λ schedule.
+        after_steps trap.now start schedule ≡ after_steps trap.now start (one_at_a_time actions.now)) }
+    ensures plays { let setting = setting_of trap.now circuit.now placement.now in
+        Plays setting (one_at_a_time actions.now) → IfOk result (λ schedule. Plays setting schedule) }
 {
-    let times = times_of(alloc, setting, actions)?;
+    let setting = Setting {
+        trap,
+        circuit,
+        placement,
+    };
+    let times = times_of(alloc, &setting, actions)?;
     let known = times.as_slice();
-    let rows = rows_of(alloc, setting, actions, known)?;
+    let rows = rows_of(alloc, &setting, actions, known)?;
     let steps = rows.as_slice();
     let schedule = schedule_of(alloc, steps)?;
     Ok(schedule)

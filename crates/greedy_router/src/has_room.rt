@@ -4,13 +4,15 @@ ghost use Rattle.std.specs.Prelude.{◌≡◌, ℕ, ◌<◌, length, MatchResult
 ghost use Rattle.trap_model.specs.Trap.{is_able};
 ghost use Rattle.route_find.specs.Distances.{AreDistances};
 ghost use Rattle.step_rules.specs.Placement.{IsPlacement};
+ghost use Rattle.step_rules.specs.Setting.{setting_of};
 ghost use Rattle.greedy_router.specs.Room.{HasRoom, Explains, AreFree, AreReached, AreAble, IsTight, IsApart, IsUnable, IsLeast, free_at};
 
 use crate::job::need_of;
+use circuit_core::Circuit;
 use qc_base::{NoMemory, OpId, PlaceId};
 use route_find::Distances;
 use std::alloc::Global;
-use step_rules::Setting;
+use step_rules::{Placement, Setting};
 use trap_model::{Need, Trap};
 
 /// Why a circuit can't be routed on a trap.
@@ -112,18 +114,29 @@ fn unable(setting: &Setting) -> Option<OpId>
 
 /// Whether there is room: each zone has two free places and can be reached from zone 0, and each operation has a
 /// zone that is able to perform it. Otherwise the first fault, by its kind and then by its zone or operation.
-pub fn room(alloc: Global, setting: &Setting) -> Result<(), RoomFault>
-    requires { IsPlacement setting.now.trap setting.now.circuit setting.now.placement }
-    ensures { MatchResult result (λ _. HasRoom setting.now) (Explains setting.now) }
+pub fn room(
+    alloc: Global,
+    trap: &Trap,
+    circuit: &Circuit,
+    placement: &Placement,
+) -> Result<(), RoomFault>
+    requires { IsPlacement trap.now circuit.now placement.now }
+    ensures { let setting = setting_of trap.now circuit.now placement.now in
+        MatchResult result (λ _. HasRoom setting) (Explains setting) }
 {
-    if let Some(zone) = tight(setting) {
-        let free = free(setting, zone) as u64;
+    let setting = Setting {
+        trap,
+        circuit,
+        placement,
+    };
+    if let Some(zone) = tight(&setting) {
+        let free = free(&setting, zone) as u64;
         return Err(RoomFault::Tight { zone, free });
     }
-    if let Some(zone) = apart(alloc, setting)? {
+    if let Some(zone) = apart(alloc, &setting)? {
         return Err(RoomFault::Apart { zone });
     }
-    if let Some(op) = unable(setting) {
+    if let Some(op) = unable(&setting) {
         return Err(RoomFault::NoAble { op });
     }
     Ok(())

@@ -3,6 +3,7 @@
 ghost use Rattle.std.specs.Prelude.{◌≡◌, ◌<◌, ℕ, true, length, All, IfOk, OnOk, MatchOption};
 ghost use Rattle.gate_order.specs.Ready.{AreReady};
 ghost use Rattle.step_rules.specs.Placement.{IsPlacement};
+ghost use Rattle.step_rules.specs.Setting.{setting_of};
 ghost use Rattle.circuit_core.specs.Order.{is_performed};
 ghost use Rattle.step_rules.specs.Play.{Plays, one_at_a_time};
 ghost use Rattle.greedy_router.specs.Room.{HasRoom};
@@ -13,10 +14,12 @@ ghost use Rattle.greedy_router.specs.Traffic.{IsTraffic, IsPlayed, Comes, Ends, 
 
 use crate::map::Map;
 use crate::traffic::Traffic;
+use circuit_core::Circuit;
 use gate_order::Ready;
 use qc_base::{NoMemory, OpId, PlaceId};
 use std::alloc::Global;
-use step_rules::{Action, Setting};
+use step_rules::{Action, Placement, Setting};
+use trap_model::Trap;
 
 /// An operation, and the zone where it is performed.
 #[derive(Clone, Copy, Debug, PartialEq, Eq)]
@@ -106,16 +109,28 @@ fn perform_all(traffic: &mut Traffic, map: &Map, ready: &mut Ready) -> Result<()
 }
 
 /// A serial list of actions that performs the circuit, in which only single ions travel.
-pub fn serial(alloc: Global, setting: &Setting) -> Result<Vec<Action>, NoMemory>
-    requires placed { IsPlacement setting.now.trap setting.now.circuit setting.now.placement }
-    requires room { HasRoom setting.now }
-    ensures plays { IfOk result (λ actions. Plays setting.now (one_at_a_time actions.items)) }
-    ensures greedy { IfOk result (λ actions. IsGreedy setting.now actions.items) }
+pub fn serial(
+    alloc: Global,
+    trap: &Trap,
+    circuit: &Circuit,
+    placement: &Placement,
+) -> Result<Vec<Action>, NoMemory>
+    requires placed { IsPlacement trap.now circuit.now placement.now }
+    requires room { HasRoom (setting_of trap.now circuit.now placement.now) }
+    ensures plays { IfOk result
+        (λ actions. Plays (setting_of trap.now circuit.now placement.now) (one_at_a_time actions.items)) }
+    ensures greedy { IfOk result
+        (λ actions. IsGreedy (setting_of trap.now circuit.now placement.now) actions.items) }
     ensures single { IfOk result (λ actions. All IsSingle actions.items) }
 {
-    let map = Map::new(alloc, setting)?;
-    let mut traffic = Traffic::start(alloc, setting)?;
-    let mut ready = Ready::new(alloc, setting.circuit)?;
+    let setting = Setting {
+        trap,
+        circuit,
+        placement,
+    };
+    let map = Map::new(alloc, &setting)?;
+    let mut traffic = Traffic::start(alloc, &setting)?;
+    let mut ready = Ready::new(alloc, circuit)?;
     perform_all(&mut traffic, &map, &mut ready)?;
     Ok(traffic.played.actions)
 }

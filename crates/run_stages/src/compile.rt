@@ -31,8 +31,14 @@ pub fn tight_schedule(alloc: Global, setting: &Setting) -> Result<Schedule, NoMe
     ensures tight { IfOk result (λ schedule. IsTight setting.now schedule) }
     ensures routed { IfOk result (λ schedule. IsRouted setting.now schedule) }
 {
-    let actions = serial(alloc, setting)?;
-    let schedule = tighten(alloc, setting, actions.as_slice())?;
+    let actions = serial(alloc, setting.trap, setting.circuit, setting.placement)?;
+    let schedule = tighten(
+        alloc,
+        setting.trap,
+        setting.circuit,
+        setting.placement,
+        actions.as_slice(),
+    )?;
     Ok(schedule)
 }
 
@@ -86,7 +92,7 @@ fn routed(alloc: Global, inputs: &Inputs, placement: &Placement) -> Result<Endin
         circuit: &inputs.circuit,
         placement,
     };
-    match room(alloc, &setting) {
+    match room(alloc, &inputs.trap, &inputs.circuit, placement) {
         Ok(()) => match compiled_text(alloc, &setting) {
             Ok(text) => Ok(written(text)),
             Err(NoMemory) => Err(Answer::NoMemory),

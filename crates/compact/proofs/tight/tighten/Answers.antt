@@ -1,4 +1,5 @@
 use Rattle.std.proofs.Common.{◌≡◌, subst, sym, ◌∙◌}
+use Rattle.step_rules.specs.Setting.{SettingValue, setting_of}
 use Rattle.step_rules.specs.Play.{Plays}
 use Rattle.step_rules.specs.Tight.{IsTight}
 use Rattle.compact.specs.Tightened.{IsRearranged}
@@ -9,19 +10,22 @@ use Rattle.compact.proofs.tight.tighten.Goals as goal
 
 pub returns-clause-tight : goal.returns-clause-tight
 returns-clause-tight c =
+    let setting : SettingValue = setting_of c.args.trap.now c.args.circuit.now c.args.placement.now in
     let is : c.in_ok-schedule.schedule ≡ c.in_ok-rows.rows.items = c.in_ok-schedule.ensures ∙ c.as_slice-steps.ensures.value in
-    let times : AreTimes c.args.setting.now c.args.actions.now c.as_slice-known.result.now = subst (AreTimes c.args.setting.now c.args.actions.now) (sym c.as_slice-known.ensures.value) c.in_ok-times.ensures in
-    subst (IsTight c.args.setting.now) (sym is) (is_tight c.args.setting.now c.args.actions.now c.as_slice-known.result.now c.in_ok-rows.rows.items times c.in_ok-rows.ensures)
+    let times : AreTimes setting c.args.actions.now c.as_slice-known.result.now = subst (AreTimes setting c.args.actions.now) (sym c.as_slice-known.ensures.value) c.in_ok-times.ensures in
+    subst (IsTight setting) (sym is) (is_tight setting c.args.actions.now c.as_slice-known.result.now c.in_ok-rows.rows.items times c.in_ok-rows.ensures)
 
 pub returns-clause-same : goal.returns-clause-same
 returns-clause-same c =
+    let setting : SettingValue = setting_of c.args.trap.now c.args.circuit.now c.args.placement.now in
     let is : c.in_ok-schedule.schedule ≡ c.in_ok-rows.rows.items = c.in_ok-schedule.ensures ∙ c.as_slice-steps.ensures.value in
-    let times : AreTimes c.args.setting.now c.args.actions.now c.as_slice-known.result.now = subst (AreTimes c.args.setting.now c.args.actions.now) (sym c.as_slice-known.ensures.value) c.in_ok-times.ensures in
-    subst (IsRearranged c.args.setting.now c.args.actions.now) (sym is) (is_rearranged c.args.setting.now c.args.actions.now c.as_slice-known.result.now c.in_ok-rows.rows.items times c.in_ok-rows.ensures)
+    let times : AreTimes setting c.args.actions.now c.as_slice-known.result.now = subst (AreTimes setting c.args.actions.now) (sym c.as_slice-known.ensures.value) c.in_ok-times.ensures in
+    subst (IsRearranged setting c.args.actions.now) (sym is) (is_rearranged setting c.args.actions.now c.as_slice-known.result.now c.in_ok-rows.rows.items times c.in_ok-rows.ensures)
 
 pub returns-clause-plays : goal.returns-clause-plays
 returns-clause-plays c = λ plays.
+    let setting : SettingValue = setting_of c.args.trap.now c.args.circuit.now c.args.placement.now in
     let is : c.in_ok-schedule.schedule ≡ c.in_ok-rows.rows.items = c.in_ok-schedule.ensures ∙ c.as_slice-steps.ensures.value in
-    let times : AreTimes c.args.setting.now c.args.actions.now c.as_slice-known.result.now = subst (AreTimes c.args.setting.now c.args.actions.now) (sym c.as_slice-known.ensures.value) c.in_ok-times.ensures in
-    subst (Plays c.args.setting.now) (sym is) (rearranged_plays c.args.setting.now c.args.actions.now c.in_ok-rows.rows.items plays
-    (is_rearranged c.args.setting.now c.args.actions.now c.as_slice-known.result.now c.in_ok-rows.rows.items times c.in_ok-rows.ensures) c.in_ok-rows.ensures.legal)
+    let times : AreTimes setting c.args.actions.now c.as_slice-known.result.now = subst (AreTimes setting c.args.actions.now) (sym c.as_slice-known.ensures.value) c.in_ok-times.ensures in
+    subst (Plays setting) (sym is) (rearranged_plays setting c.args.actions.now c.in_ok-rows.rows.items plays
+    (is_rearranged setting c.args.actions.now c.as_slice-known.result.now c.in_ok-rows.rows.items times c.in_ok-rows.ensures) c.in_ok-rows.ensures.legal)
