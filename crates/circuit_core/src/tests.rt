@@ -6,8 +6,8 @@ ghost use Rattle.circuit_core.specs.Circuit.{all_nodes};
 ghost use Rattle.circuit_core.specs.Op.{HasSmallAngles, IsOp};
 
 use crate::{
-    Angle, Angles, BinOp, Circuit, Cond, FunName, Nearest, Op, Qubits, Reg, forced, push_label,
-    push_op, shares,
+    Angle, Angles, BinOp, Circuit, Cond, FunName, Nearest, Op, Qubits, Reg, forced, is_identifier,
+    push_label, push_op, shares,
 };
 use qc_base::{Bit, CregId, Items, Name, NoMemory, OpId, Qubit};
 use sqlite_items::Boxed;
@@ -273,5 +273,110 @@ fn barriers_order_gates_on_other_qubits(rt: HostRuntime) -> Result<(), Fail> {
     let nearest = Nearest::new(rt.alloc(), &circuit)?;
     assert!(rt; nearest.of(OpId(0)).is_empty());
     assert!(rt; nearest.of(OpId(3)) == [OpId(2)].as_slice());
+    Ok(())
+}
+
+/// A measurement into the second register of bits, a gate with a condition on the first, and a barrier.
+fn mixed(alloc: Global) -> Result<Vec<Op>, NoMemory>
+    ensures ops { IfOk result (λ ops. All (IsOp 3 3 2) ops.items) }
+    ensures count { IfOk result (λ ops. length ops.items ≡ 3) }
+    ensures nodes { IfOk result (λ ops. all_nodes ops.items ≡ 0) }
+{
+    let qubits: Qubits = Items::from_vec(vec![in alloc; Qubit(2), Qubit(0), Qubit(1)]?);
+    let mut ops = Vec::new(alloc);
+    ops.push(Op::Measure {
+        qubit: Qubit(1),
+        bit: Bit(2),
+        cond: None,
+    })?;
+    ops.push(Op::Cx {
+        control: Qubit(2),
+        target: Qubit(0),
+        cond: Some(Cond {
+            creg: CregId(0),
+            value: 3,
+        }),
+    })?;
+    ops.push(Op::Barrier { qubits })?;
+    Ok(ops)
+}
+
+/// These on registers q of three qubits, c of two bits and d of one.
+fn conditioned(alloc: Global) -> Result<Circuit, NoMemory> {
+    let ops = mixed(alloc)?;
+    let qregs = Vec::from_array(alloc, [reg_of(alloc, b"q", 3)?])?;
+    let cregs = Vec::from_array(alloc, [reg_of(alloc, b"c", 2)?, reg_of(alloc, b"d", 1)?])?;
+    Ok(Circuit::new(qregs, cregs, ops))
+}
+
+/// Whether an operation acts on the qubits of these numbers, in order.
+fn acts_on(rt: &impl Abort, op: &Op, numbers: &[u32]) {
+    assert!(rt; op.width() == numbers.len());
+    for (index, number) in numbers.iter().enumerate() {
+        assert!(rt; op.qubit(index) == Qubit(*number));
+    }
+}
+
+#[test]
+fn parts_of_operations(rt: HostRuntime) -> Result<(), Fail> {
+    let circuit = conditioned(rt.alloc())?;
+    let cond = Cond {
+        creg: CregId(0),
+        value: 3,
+    };
+    let rows: [(&[u32], Option<Bit>, Option<Cond>, bool); 3] = [
+        (&[1], Some(Bit(2)), None, false),
+        (&[2, 0], None, Some(cond), false),
+        (&[2, 0, 1], None, None, true),
+    ];
+    for (number, row) in (0..).zip(rows) {
+        let Some(op) = circuit.op(OpId(number)) else {
+            return Err(Fail::new("no operation"));
+        };
+        acts_on(&rt, op, row.0);
+        assert!(rt; op.bit() == row.1);
+        assert!(rt; op.cond() == row.2);
+        assert!(rt; op.is_barrier() == row.3);
+    }
+    assert!(rt; circuit.op(OpId(3)).is_none());
+    Ok(())
+}
+
+#[test]
+fn bits_are_numbered_through_the_registers(rt: HostRuntime) -> Result<(), Fail> {
+    let circuit = conditioned(rt.alloc())?;
+    let rows: [(&[u8], u32, u32); 2] = [(b"c", 2, 0), (b"d", 1, 2)];
+    assert!(rt; circuit.cregs().len() == rows.len());
+    for (number, row) in (0..).zip(rows) {
+        let Some(reg) = circuit.cregs().get(number as usize) else {
+            return Err(Fail::new("no register"));
+        };
+        assert!(rt; reg.name.bytes() == row.0);
+        assert!(rt; reg.size == row.1);
+        assert!(rt; circuit.first_bit(CregId(number)) == row.2);
+    }
+    assert!(rt; circuit.bits() == 3);
+    Ok(())
+}
+
+#[test]
+fn names_of_registers_and_gates(rt: HostRuntime) -> Result<(), Fail> {
+    let long = vec![in rt.alloc(); b'q'; 64]?;
+    let longer = vec![in rt.alloc(); b'q'; 65]?;
+    for name in [b"q".as_slice(), b"q_1Z", b"iff", long.as_slice()] {
+        assert!(rt; is_identifier(name));
+    }
+    for name in [
+        b"".as_slice(),
+        b"Q",
+        b"_q",
+        b"1q",
+        b"q-1",
+        b"if",
+        b"sqrt",
+        longer.as_slice(),
+    ] {
+        assert!(rt; !is_identifier(name));
+    }
     Ok(())
 }

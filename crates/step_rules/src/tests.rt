@@ -1,6 +1,8 @@
 //! Actions between two zones that a junction joins, and lists that are no placement.
 
+ghost use Rattle.std.specs.Prelude.{◌≡◌, ◌<◌, ◌^◌, length};
 ghost use Rattle.step_rules.specs.Config.{IsConfigOf};
+ghost use Rattle.step_rules.specs.Placement.{reading_order};
 
 use crate::action::{Action, Rule, Schedule};
 use crate::config::Config;
@@ -8,7 +10,7 @@ use crate::conflict::{conflicts, footprint};
 use crate::placement::{GivenFault, Placement};
 use crate::rules::enabled;
 use crate::spots::Footprint;
-use circuit_core::Circuit;
+use circuit_core::{Circuit, Qubits};
 use qc_base::{End, Ion, JunctionId, OpId, PlaceId, Qubit};
 use samples::{barrier, circuit_of, cx, lists_of, segment, zones_at_a_junction};
 use std::alloc::Global;
@@ -281,6 +283,18 @@ fn slots_in_a_row(rt: HostRuntime) -> Result<(), Fail> {
     )
 }
 
+// How many qubits are in the lists.
+fn placed_count(lists: &[Qubits]) -> usize
+    requires { length (reading_order lists.now) < 2 ^ 32 }
+    ensures { result ≡ length (reading_order lists.now) }
+{
+    let mut count = 0;
+    for list in lists {
+        count += list.items().len();
+    }
+    count
+}
+
 #[test]
 fn lists_that_are_no_placement(rt: HostRuntime) -> Result<(), Fail> {
     let alloc = rt.alloc();
@@ -311,6 +325,8 @@ fn lists_that_are_no_placement(rt: HostRuntime) -> Result<(), Fail> {
     let lists = lists_of(alloc, &trap, &circuit, &[&[2, 0], &[3, 1]])?;
     let placement = Placement::new(alloc, &trap, &circuit, lists)?;
     assert!(rt; placement.ion_of(Qubit(3)) == Ion(2) && placement.ion_of(Qubit(0)) == Ion(1));
+    assert!(rt; placed_count(placement.lists()) == 4);
+    assert!(rt; placement.qubit_of(Ion(0)) == Qubit(2) && placement.qubit_of(Ion(2)) == Qubit(3));
     Ok(())
 }
 
@@ -325,6 +341,9 @@ fn footprints_and_conflicts(rt: HostRuntime) -> Result<(), Fail> {
         junction: Some(JunctionId(0)),
     };
     assert!(rt; footprint(&trap, &cross(2, 3)) == crossing);
+    assert!(rt; crossing.meets(&footprint(&trap, &split(0, End::B, 1))));
+    assert!(rt; crossing.meets(&footprint(&trap, &cross(7, 8))));
+    assert!(rt; !crossing.meets(&footprint(&trap, &swap(0, 0))));
     assert!(rt; conflicts(&trap, &circuit, &split(0, End::B, 1), &cross(3, 2)));
     assert!(rt; conflicts(&trap, &circuit, &cross(2, 7), &cross(8, 3)));
     assert!(rt; !conflicts(&trap, &circuit, &swap(0, 0), &cross(2, 3)));
@@ -335,10 +354,13 @@ fn footprints_and_conflicts(rt: HostRuntime) -> Result<(), Fail> {
 #[test]
 fn steps_in_order(rt: HostRuntime) -> Result<(), Fail> {
     let mut schedule = Schedule::new(rt.alloc());
+    schedule.reserve(2)?;
+    assert!(rt; schedule.steps().is_empty());
     schedule.push_step()?;
     schedule.push_step()?;
     schedule.push_action(swap(0, 0))?;
     schedule.push_action(op(0, 0))?;
+    schedule.reserve(1)?;
     let steps = schedule.steps();
     assert!(rt; steps.len() == 2);
     assert!(rt; steps[0].actions().is_empty());
