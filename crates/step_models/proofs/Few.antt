@@ -524,5 +524,5 @@ parts_few setting encoding steps (suc r) trap small =
 
 pub clauses_fit : (setting : SettingValue) (encoding : Encoding) (t : ℕ) → IsTrap setting.trap
     → IsSmall setting t
-    → length (encoding_of setting encoding t) < 2 ^ 63
+    → length (encoding_of setting encoding t) < 2 ^ 62
 clauses_fit setting encoding t trap small = omega (arith, parts_few setting encoding t t trap small, small.time)

@@ -65,7 +65,7 @@ PartsNameTheirVariables setting encoding t =
     NameOnly (λ var. (1 ≤ var) × (var ≤ before (numbering_of setting encoding) (t + 1)))
     (encoding_of setting encoding t)
 
--- the variables and the clauses of the parts 0 to t are few enough to be numbered by 31 and 63 bits
+-- the variables and the clauses of the parts 0 to t are few enough to be numbered by 31 and 62 bits
 pub record PartsAreSmall (setting : SettingValue) (encoding : Encoding) (t : ℕ) : Type 0 where
   pub vars : vars_up_to setting encoding t < 2 ^ 31
-  pub clauses : length (encoding_of setting encoding t) < 2 ^ 63
+  pub clauses : length (encoding_of setting encoding t) < 2 ^ 62

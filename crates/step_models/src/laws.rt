@@ -44,7 +44,7 @@ pub fn parts_name_their_variables()
     encodings_limit();
 }
 
-/// Within the limits the parts 0 to t have fewer than 2^63 clauses, and fewer than 2^31 variables.
+/// Within the limits the parts 0 to t have fewer than 2^62 clauses, and fewer than 2^31 variables.
 pub fn parts_are_small()
     ensures { (setting : SettingValue) (encoding : AnEncoding) (t : ℕ)
         → IsSetting setting → IsSmall setting t → PartsAreSmall setting encoding t }

@@ -15,12 +15,10 @@ use sat_base::{Bound, Formula};
 use std::alloc::Global;
 use std::marker::Model;
 use step_clauses::{goal, layer};
+use step_models::parts_are_small;
 use step_rules::Placement;
 use step_vars::{Claim, Encoding, Item, Vars};
 use trap_model::Trap;
-
-/// The most clauses that a certificate is checked over. More would need more memory than a machine has.
-const CLAUSES: u64 = 1 << 62;
 
 /// What a certificate has to show: that no schedule that plays has fewer steps. Clauses see the setting and the
 /// steps.
@@ -112,6 +110,7 @@ impl<'a> Minimum<'a> {
             → IsReady self.now.setting encoding bound x.0 x.1) }
         ensures err { IfErr result (λ fault. fault ≡ VerifyFault.NoMemory) }
     {
+        parts_are_small();
         let bound = self.steps - 1;
         let vars = Vars::new(
             self.alloc,
@@ -122,9 +121,6 @@ impl<'a> Minimum<'a> {
             encoding,
         )?;
         let formula = self.formula(&vars, bound)?;
-        if formula.len() > CLAUSES {
-            return Err(VerifyFault::NoMemory);
-        }
         let goal = vars.lit(&Claim::so(Item::Goal { time: bound })).var();
         let checker = Checker::new(self.alloc, formula, vars.count(bound), LIMIT - head);
         Ok((checker, goal))

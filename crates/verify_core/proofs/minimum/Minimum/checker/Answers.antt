@@ -6,8 +6,10 @@ use Rattle.step_vars.specs.declared.encoding.Encoding.{Encoding}
 use Rattle.step_vars.specs.declared.item.Claim.{Claim}
 use Rattle.step_vars.specs.Items.{time_of}
 use Rattle.step_vars.specs.Numbering.{number_of}
-use Rattle.step_vars.specs.Encoding.{encoding_of, goal_literal}
+use Rattle.step_vars.specs.Encoding.{IsSmall, encoding_of, goal_literal}
 use Rattle.step_vars.specs.Certifies.{vars_up_to, head_of, asked}
+use Rattle.step_facts.specs.Run.{IsSetting}
+use Rattle.step_models.specs.Models.{PartsAreSmall}
 use Rattle.step_vars.proofs.OfSetting.{steps_are, encoding_is, goal_there, goal_named, counted}
 use Rattle.verify_core.specs.Reading.{MinimumValue, IsReady}
 use Rattle.verify_core.proofs.Minimums.{made_in, asked_head, is_ready}
@@ -63,7 +65,11 @@ returns-clause-ready c = λ bound e.
     goal_named setting encoding last vars last c.so.result c.lit.result made c.so.ensures c.lit.ensures ∙ ap (λ (it : SettingValue). goal_literal it encoding last) same in
     let head : c.args.head ≡ length (head_text (head_of encoding (asked (suc last)))) =
     c.requires.head ∙ ap (λ (n : ℕ). length (head_text (head_of encoding (asked n)))) steps in
-    let few : length c.in_ok-formula.formula ≤ 2 ^ 62 = omega (arith, c.if-len-gt-CLAUSES.false, c.len.ensures) in
+    let kept = c.self.invariant in
+    let sound : IsSetting setting = record { trap = kept.trap; circuit = kept.circuit; placement = kept.placement } in
+    let within : IsSmall setting last = record { ions = kept.small.ions; places = kept.small.places; ops = kept.small.ops; time = omega (arith, kept.small.time) } in
+    let parts : PartsAreSmall minimum.setting encoding last = subst (λ (it : SettingValue). PartsAreSmall it encoding last) same (c.parts_are_small.ensures setting encoding last sound within) in
+    let few : length c.in_ok-formula.formula ≤ 2 ^ 62 = omega (arith, parts.clauses, ap length clauses) in
     subst (λ (n : ℕ). IsReady minimum.setting encoding n c.new-checker.result c.var-goal.result) is
     (is_ready minimum minimum.setting encoding last c.count.result c.args.head c.var-goal.result c.in_ok-formula.formula c.lit.result c.new-checker.result refl clauses count literal
     c.var-goal.ensures.var c.var-goal.ensures.from_1 c.var-goal.ensures.below c.count.ensures.small few head c.new-checker.ensures.fed c.new-checker.ensures.no_fault)
