@@ -19,6 +19,3 @@ pub use laws::{
     expanded_circuits_are_circuits, operations_come_from_statements,
     programs_without_bodies_are_kept,
 };
-
-#[cfg(test)]
-mod tests;

@@ -5,8 +5,6 @@ mod after;
 mod laws;
 mod progress;
 mod ready_ops;
-#[cfg(test)]
-mod tests;
 
 pub use laws::all_are_done_where_none_is_ready;
 pub use ready_ops::Ready;

@@ -32,10 +32,3 @@ pub use laws::{one_answer, one_reading, one_statement_begins};
 pub use names::Names;
 pub use qop::Qop;
 pub use statement::{Placed, Program, Statement};
-
-#[cfg(test)]
-mod expression_tests;
-#[cfg(test)]
-mod file_tests;
-#[cfg(test)]
-mod tests;

@@ -8,8 +8,6 @@ mod text_tokens;
 mod token;
 mod token_fault;
 mod token_laws;
-#[cfg(test)]
-mod token_tests;
 
 pub use text_tokens::TextTokens;
 pub use token::{Keyword, PlacedToken, Sign, Token, TokenSource};

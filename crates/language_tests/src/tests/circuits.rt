@@ -5,11 +5,12 @@ ghost use Rattle.circuit_core.specs.Angle.{nodes_of};
 ghost use Rattle.circuit_core.specs.Circuit.{all_nodes};
 ghost use Rattle.circuit_core.specs.Op.{HasSmallAngles, IsOp};
 
-use crate::{
+use circuit_core::{
     Angle, Angles, BinOp, Circuit, Cond, FunName, Nearest, Op, Qubits, Reg, forced, is_identifier,
     push_label, push_op, shares,
 };
 use qc_base::{Bit, CregId, Items, Name, NoMemory, OpId, Qubit};
+use samples::{barrier, circuit_of, turn};
 use sqlite_items::Boxed;
 use std::alloc::Global;
 use std::process::Abort;
@@ -77,7 +78,7 @@ fn reg_of(alloc: Global, name: &[u8], size: u32) -> Result<Reg, NoMemory>
 }
 
 /// Registers q of two qubits, r of one and c of two bits.
-fn circuit_of(alloc: Global) -> Result<Circuit, NoMemory> {
+fn registers(alloc: Global) -> Result<Circuit, NoMemory> {
     let mut qregs = Vec::new(alloc);
     qregs.push(reg_of(alloc, b"q", 2)?)?;
     qregs.push(reg_of(alloc, b"r", 1)?)?;
@@ -177,7 +178,7 @@ fn angles(alloc: Global) -> Result<Angles, NoMemory>
 #[test]
 fn operations_are_written_with_their_conditions(rt: HostRuntime) -> Result<(), Fail> {
     let alloc = rt.alloc();
-    let circuit = circuit_of(alloc)?;
+    let circuit = registers(alloc)?;
     are_written(&rt, alloc, &circuit, None, b"")?;
     let cond = Cond {
         creg: CregId(0),
@@ -197,7 +198,7 @@ fn operations_are_written_with_their_conditions(rt: HostRuntime) -> Result<(), F
 
 #[test]
 fn labels_are_found_in_their_registers(rt: HostRuntime) -> Result<(), Fail> {
-    let circuit = circuit_of(rt.alloc())?;
+    let circuit = registers(rt.alloc())?;
     let labels: [&[u8]; 3] = [b"q[0]", b"q[1]", b"r[0]"];
     for (number, label) in (0..).zip(labels) {
         let mut out = Vec::new(rt.alloc());
@@ -211,56 +212,12 @@ fn labels_are_found_in_their_registers(rt: HostRuntime) -> Result<(), Fail> {
     Ok(())
 }
 
-/// A gate with no turn.
-fn still(qubit: u32) -> Op
-    requires { qubit < 3 }
-    ensures op { IsOp 3 0 0 result }
-    ensures nodes { all_nodes (result ∷ []) ≡ 3 }
-{
-    Op::U {
-        theta: Angle::Pi,
-        phi: Angle::Pi,
-        lambda: Angle::Pi,
-        qubit: Qubit(qubit),
-        cond: None,
-    }
-}
-
-fn barrier(alloc: Global, first: u32, second: u32) -> Result<Op, NoMemory>
-    requires order { first < second }
-    requires below { second < 3 }
-    ensures op { IfOk result (IsOp 3 0 0) }
-    ensures nodes { IfOk result (λ op. all_nodes (op ∷ []) ≡ 0) }
-{
-    let mut qubits = Vec::new(alloc);
-    qubits.push(Qubit(first))?;
-    qubits.push(Qubit(second))?;
-    Ok(Op::Barrier {
-        qubits: Items::from_vec(qubits),
-    })
-}
-
 /// A gate on qubit 0, two barriers that lead from there to qubit 2, and a gate on it.
-fn ordered(alloc: Global) -> Result<Vec<Op>, NoMemory>
-    ensures ops { IfOk result (λ ops. All (IsOp 3 0 0) ops.items) }
-    ensures count { IfOk result (λ ops. length ops.items ≡ 4) }
-    ensures nodes { IfOk result (λ ops. all_nodes ops.items ≤ 6) }
-{
-    let mut ops = Vec::new(alloc);
-    ops.push(still(0))?;
-    ops.push(barrier(alloc, 0, 1)?)?;
-    ops.push(barrier(alloc, 1, 2)?)?;
-    ops.push(still(2))?;
-    Ok(ops)
-}
-
-fn barriers(alloc: Global) -> Result<Circuit, NoMemory>
-    ensures { IfOk result (λ circuit. length circuit.ops ≡ 4) }
-{
-    let ops = ordered(alloc)?;
-    let mut qregs = Vec::new(alloc);
-    qregs.push(reg_of(alloc, b"q", 3)?)?;
-    Ok(Circuit::new(qregs, Vec::new(alloc), ops))
+fn barriers(alloc: Global) -> Result<Circuit, Fail> {
+    let first = barrier(alloc, &[0, 1])?;
+    let second = barrier(alloc, &[1, 2])?;
+    let ops = Vec::from_array(alloc, [turn(0), first, second, turn(2)])?;
+    circuit_of(alloc, 3, 0, ops)
 }
 
 #[test]
@@ -270,6 +227,7 @@ fn barriers_order_gates_on_other_qubits(rt: HostRuntime) -> Result<(), Fail> {
     assert!(rt; !forced(&circuit, OpId(3), OpId(0)));
     assert!(rt; !shares(&circuit, OpId(0), OpId(3)));
     assert!(rt; shares(&circuit, OpId(0), OpId(1)));
+    assert!(rt; circuit.ops().len() == 4);
     let nearest = Nearest::new(rt.alloc(), &circuit)?;
     assert!(rt; nearest.of(OpId(0)).is_empty());
     assert!(rt; nearest.of(OpId(3)) == [OpId(2)].as_slice());

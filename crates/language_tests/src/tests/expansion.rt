@@ -1,16 +1,12 @@
-use crate::{Counted, ExpandFault, expand};
+//! Circuits of files, and why a file has none.
+
+use crate::tests::texts::file;
 use circuit_core::{Circuit, push_op};
+use gate_expand::{Counted, ExpandFault, expand};
 use qasm_read::read;
 use qc_base::NoMemory;
 use std::alloc::Global;
 use std::test::Fail;
-
-/// A file with this text after its header.
-fn file(alloc: Global, text: &[u8]) -> Result<Vec<u8>, NoMemory> {
-    let mut bytes = Vec::from_slice(alloc, b"OPENQASM 2.0;\n")?;
-    bytes.extend_from_slice(text)?;
-    Ok(bytes)
-}
 
 /// The texts of a circuit's operations, a line each.
 fn lines_of(alloc: Global, circuit: &Circuit) -> Result<Vec<u8>, NoMemory> {

@@ -1,7 +1,7 @@
 use Rattle.std.proofs.Common.{arith}
 use Rattle.std.proofs.lemmas.List.Elements.{Contains-get_or}
 use Rattle.gate_order.specs.Keeping.{op}
-use Rattle.gate_order.proofs.tests.perform.Goals as goal
+use Rattle.language_tests.proofs.tests.ready.perform.Goals as goal
 
 pub done-requires : goal.done-requires
 done-requires g c =

@@ -1,6 +1,6 @@
 //! Expressions of whole circuit files.
 
-use crate::{Exp, Placed, QasmFault, Qop, Statement, read};
+use qasm_read::{Exp, Placed, QasmFault, Qop, Statement, read};
 use qc_base::NoMemory;
 use std::alloc::Global;
 use std::test::Fail;

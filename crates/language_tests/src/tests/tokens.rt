@@ -1,8 +1,7 @@
 //! Tokens and their faults.
 
-use crate::text_tokens::TextTokens;
-use crate::token::{PlacedToken, Token, TokenSource};
-use crate::token_fault::TokenFault;
+use crate::tests::texts::many;
+use qasm_tokens::{PlacedToken, TextTokens, Token, TokenFault, TokenSource};
 use std::alloc::{AllocError, Global};
 use std::process::Abort;
 use std::test::Fail;
@@ -171,22 +170,6 @@ fn circuit_cut_to_each_length(rt: HostRuntime) -> Result<(), Fail> {
         assert!(rt; found == wanted, "at {length}");
     }
     Ok(())
-}
-
-/// So many of a byte between two texts.
-fn many(
-    alloc: Global,
-    front: &[u8],
-    byte: u8,
-    count: usize,
-    end: &[u8],
-) -> Result<Vec<u8>, AllocError> {
-    let mut text = Vec::from_slice(alloc, front)?;
-    for _ in 0..count {
-        text.push(byte)?;
-    }
-    text.extend_from_slice(end)?;
-    Ok(text)
 }
 
 #[test]

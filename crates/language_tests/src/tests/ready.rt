@@ -1,7 +1,7 @@
 //! Small circuits, an operation after another.
 
-use crate::ready_ops::Ready;
 use circuit_core::{Circuit, Op};
+use gate_order::Ready;
 use qc_base::OpId;
 use samples::{barrier, measure, reset};
 use std::alloc::Global;

@@ -1,15 +1,14 @@
 //! Whole circuit files.
 
-use crate::{QasmFault, read};
+use crate::tests::texts::file;
+use qasm_read::{QasmFault, read};
 use qc_base::NoMemory;
 use std::alloc::Global;
 use std::test::Fail;
 
-/// What a file's bytes, after the line of the header, are read as.
-fn file_fault(alloc: Global, text: &[u8]) -> Result<Option<QasmFault>, NoMemory> {
-    let mut bytes = Vec::from_slice(alloc, b"OPENQASM 2.0;\n")?;
-    bytes.extend_from_slice(text)?;
-    Ok(read(alloc, &bytes).err())
+/// Why a file with this text has no program.
+fn fault(alloc: Global, text: &[u8]) -> Result<Option<QasmFault>, NoMemory> {
+    Ok(read(alloc, &file(alloc, text)?).err())
 }
 
 #[test]
@@ -32,8 +31,8 @@ fn files_with_faults(rt: HostRuntime) -> Result<(), Fail> {
         (b"qreg q[1]; U(0,0,0) q[0]; // end", None),
         (b"", None),
     ];
-    for (text, fault) in rows {
-        assert!(rt; file_fault(alloc, text)? == fault);
+    for (text, wanted) in rows {
+        assert!(rt; fault(alloc, text)? == wanted);
     }
     assert!(rt; read(alloc, b"OPENQASM 3.0;").err() == Some(QasmFault::Header));
     assert!(rt; read(alloc, b"OPENQASM 2.0 ;").is_ok());
