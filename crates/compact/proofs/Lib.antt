@@ -15,4 +15,3 @@ pub mod WireLevels
 pub mod Rows
 pub mod Timing
 pub mod Taking
-pub mod Testing

@@ -8,8 +8,6 @@ mod levels;
 mod orders;
 mod row;
 mod spots;
-#[cfg(test)]
-mod tests;
 mod tight;
 mod waiting;
 mod wires;

@@ -6,8 +6,6 @@ mod laws;
 mod progress;
 mod ready;
 mod simulator;
-#[cfg(test)]
-mod tests;
 
 pub use fault::PlayFault;
 pub use laws::one_verdict;

@@ -7,8 +7,6 @@ mod lines;
 mod printer;
 mod tables;
 mod tally;
-#[cfg(test)]
-mod tests;
 mod totals;
 
 pub use counting::counts;

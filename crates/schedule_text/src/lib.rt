@@ -8,8 +8,6 @@ mod open;
 mod place_line;
 mod printer;
 mod reader;
-#[cfg(test)]
-mod tests;
 mod text_fault;
 mod words;
 

@@ -1,6 +1,6 @@
 use Rattle.std.proofs.Common.{◌≡◌, ◌+◌, ◌<◌, ◌^◌, length, drop}
 use Rattle.step_rules.specs.Placement.{reading_order}
-use Rattle.step_rules.proofs.tests.placed_count.Given as goal
+use Rattle.schedule_tests.proofs.tests.rules.placed_count.Given as goal
 
 -- so far, and the rest
 abbrev pub invariant-loop-list : goal.invariant-loop-list

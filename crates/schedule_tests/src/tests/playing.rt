@@ -1,21 +1,23 @@
 //! Schedules that play, and the first fault of those that don't.
 
-ghost use Rattle.std.specs.Prelude.{IfOk};
-ghost use Rattle.step_rules.specs.Placement.{IsPlacement};
-ghost use Rattle.step_rules.specs.Config.{IsConfigOf};
-
-use crate::fault::PlayFault;
-use crate::simulator::play;
-use circuit_core::{Angle, Circuit, Cond, Op};
-use qc_base::{CregId, End, Ion, JunctionId, Name, NoMemory, OpId, PlaceId, Qubit};
-use samples::{barrier, cx, join, lists_of, segment, trap_of, turn, zones_at_a_junction, zones_of};
+use crate::tests::actions::{cross, goes, merge, op, split};
+use crate::tests::ops::turn_if;
+use crate::tests::places::{compare, placed};
+use crate::tests::steps::schedule_of;
+use circuit_core::Circuit;
+use qc_base::{End, Name, OpId};
+use samples::{barrier, cx, join, segment, trap_of, turn, zones_at_a_junction, zones_of};
+use schedule_play::{PlayFault, play};
 use std::alloc::Global;
 use std::process::Abort;
 use std::test::Fail;
-use step_rules::{Action, Config, Placement, Rule, Schedule};
+use step_rules::{Action, Rule};
 use trap_model::{Need, Trap, TrapParts};
 
 const ABLE: [Need; 2] = [Need::One, Need::Two];
+
+// The qubits of zone A and those of zone B.
+const PLACED: [&[u32]; 2] = [&[0, 1], &[2, 3]];
 
 // Zone A by segment s to junction J, and from there by t.0, with room for two ions, to zone B. Each zone has
 // room for three.
@@ -58,78 +60,6 @@ fn circuit_of(alloc: Global, pairs: &[(u32, u32)]) -> Result<Circuit, Fail> {
     samples::circuit_of(alloc, 4, 0, ops)
 }
 
-// Qubits 0 and 1 in zone A, 2 and 3 in zone B.
-fn placed(alloc: Global, trap: &Trap, circuit: &Circuit) -> Result<Placement, Fail>
-    ensures { IfOk result (IsPlacement trap.now circuit.now) }
-{
-    let lists = lists_of(alloc, trap, circuit, &[&[0, 1], &[2, 3]])?;
-    let placement = Placement::new(alloc, trap, circuit, lists)?;
-    Ok(placement)
-}
-
-// Adds the actions to the last step.
-fn add_actions(
-    rt: &impl Abort,
-    schedule: &mut Schedule,
-    actions: &[Action],
-) -> Result<(), NoMemory> {
-    for action in actions {
-        assert!(rt; !schedule.steps().is_empty());
-        schedule.push_action(*action)?;
-    }
-    Ok(())
-}
-
-fn add_step(rt: &impl Abort, schedule: &mut Schedule, actions: &[Action]) -> Result<(), NoMemory> {
-    schedule.push_step()?;
-    add_actions(rt, schedule, actions)
-}
-
-fn schedule_of(rt: &impl Abort, alloc: Global, steps: &[&[Action]]) -> Result<Schedule, NoMemory> {
-    let mut schedule = Schedule::new(alloc);
-    for actions in steps {
-        add_step(rt, &mut schedule, actions)?;
-    }
-    Ok(schedule)
-}
-
-fn split(zone: u32, end: End, count: u32) -> Action {
-    Action::Split {
-        zone: PlaceId(zone),
-        end,
-        count,
-    }
-}
-
-fn merge(zone: u32, end: End) -> Action {
-    Action::Merge {
-        zone: PlaceId(zone),
-        end,
-    }
-}
-
-fn goes(from: u32, to: u32) -> Action {
-    Action::Move {
-        from: PlaceId(from),
-        to: PlaceId(to),
-    }
-}
-
-fn cross(from: u32, to: u32) -> Action {
-    Action::Cross {
-        junction: JunctionId(0),
-        from: PlaceId(from),
-        to: PlaceId(to),
-    }
-}
-
-fn op(zone: u32, op: u32) -> Action {
-    Action::Op {
-        zone: PlaceId(zone),
-        op: OpId(op),
-    }
-}
-
 fn broken(step: u64, action: u64, rule: Rule) -> PlayFault {
     PlayFault::Broken { step, action, rule }
 }
@@ -144,25 +74,11 @@ fn stops(
     fault: PlayFault,
 ) -> Result<(), Fail> {
     let circuit = circuit_of(alloc, pairs)?;
-    let placement = placed(alloc, trap, &circuit)?;
+    let placement = placed(alloc, trap, &circuit, &PLACED)?;
     let schedule = schedule_of(rt, alloc, steps)?;
     let found = play(alloc, trap, &circuit, &placement, &schedule).err();
     assert!(rt; found == Some(fault), "{found:?}");
     Ok(())
-}
-
-fn reads(ions: &[Ion], numbers: &[u32]) -> bool {
-    ions.iter().map(|ion| ion.0).eq(numbers.iter().copied())
-}
-
-// Compares the lists of all places.
-fn compare(rt: &impl Abort, trap: &Trap, config: &Config, places: &[&[u32]])
-    requires { IsConfigOf trap.now config.now }
-{
-    assert!(rt; trap.places() as usize == places.len());
-    for place in 0..trap.places() {
-        assert!(rt; reads(config.list(PlaceId(place)), places[place as usize]));
-    }
 }
 
 // Plays the steps to their end and compares where the ions are then.
@@ -175,7 +91,7 @@ fn plays(
     places: &[&[u32]],
 ) -> Result<(), Fail> {
     let circuit = circuit_of(alloc, pairs)?;
-    let placement = placed(alloc, trap, &circuit)?;
+    let placement = placed(alloc, trap, &circuit, &PLACED)?;
     let schedule = schedule_of(rt, alloc, steps)?;
     let config = play(alloc, trap, &circuit, &placement, &schedule)?;
     compare(rt, trap, &config, places);
@@ -291,20 +207,6 @@ fn barriers(alloc: Global) -> Result<Circuit, Fail> {
     samples::circuit_of(alloc, 4, 0, ops)
 }
 
-// A gate on the qubit, where a register of 4,096 bits holds the value.
-fn turn_if(qubit: u32, value: u64) -> Op {
-    Op::U {
-        theta: Angle::Pi,
-        phi: Angle::Pi,
-        lambda: Angle::Pi,
-        qubit: Qubit(qubit),
-        cond: Some(Cond {
-            creg: CregId(0),
-            value,
-        }),
-    }
-}
-
 // Plays the steps of the circuit.
 fn answer(
     rt: &impl Abort,
@@ -313,7 +215,7 @@ fn answer(
     circuit: &Circuit,
     steps: &[&[Action]],
 ) -> Result<Option<PlayFault>, Fail> {
-    let placement = placed(alloc, trap, circuit)?;
+    let placement = placed(alloc, trap, circuit, &PLACED)?;
     let schedule = schedule_of(rt, alloc, steps)?;
     Ok(play(alloc, trap, circuit, &placement, &schedule).err())
 }

@@ -1,5 +1,5 @@
 use Rattle.step_rules.specs.Config.{IsConfigOf}
-use Rattle.step_rules.proofs.tests.act_all.Given as goal
+use Rattle.schedule_tests.proofs.tests.rules.act_all.Given as goal
 
 abbrev pub invariant-loop-action : goal.invariant-loop-action
 invariant-loop-action g l = IsConfigOf l.trap l.config

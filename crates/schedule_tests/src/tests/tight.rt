@@ -6,14 +6,18 @@ ghost use Rattle.step_rules.specs.Play.{AreInOrder, AreLegal, one_at_a_time};
 ghost use Rattle.compact.specs.Orders.{IsPerformedAt, Precedes};
 ghost use Rattle.circuit_core.specs.Order.{Forced};
 
-use crate::tight::tighten;
-use circuit_core::{Angle, Circuit, Cond, Op, forced};
-use qc_base::{CregId, End, NoMemory, OpId, PlaceId, Qubit};
-use samples::{ALL, barrier, cx, lists_of, measure, turn, zones_at_a_slot};
+use crate::tests::actions::{merge, op, split};
+use crate::tests::ops::turn_if;
+use crate::tests::places::placed;
+use crate::tests::steps::has_steps;
+use circuit_core::{Circuit, Op, forced};
+use compact::tighten;
+use qc_base::{End, NoMemory, OpId};
+use samples::{ALL, barrier, cx, measure, turn, zones_at_a_slot};
 use std::alloc::Global;
 use std::process::Abort;
 use std::test::Fail;
-use step_rules::{Action, Config, Placement, Schedule, Setting, enabled};
+use step_rules::{Action, Config, Setting, enabled};
 use trap_model::Trap;
 
 // Zones A and B with room for six ions each, and a segment of one slot between them.
@@ -41,16 +45,7 @@ fn op_of(alloc: Global, sort: Sort) -> Result<Op, NoMemory> {
         Sort::Wall => barrier(alloc, &[0, 4]),
         Sort::WallOverAll => barrier(alloc, &[0, 1, 2, 3, 4, 5, 6, 7]),
         Sort::Read(qubit, bit) => Ok(measure(qubit, bit)),
-        Sort::When(qubit) => Ok(Op::U {
-            theta: Angle::Pi,
-            phi: Angle::Pi,
-            lambda: Angle::Pi,
-            qubit: Qubit(qubit),
-            cond: Some(Cond {
-                creg: CregId(0),
-                value: 1,
-            }),
-        }),
+        Sort::When(qubit) => Ok(turn_if(qubit, 1)),
     }
 }
 
@@ -61,15 +56,6 @@ fn circuit_of(alloc: Global, sorts: &[Sort]) -> Result<Circuit, Fail> {
         ops.push(op_of(alloc, *sort)?)?;
     }
     samples::circuit_of(alloc, 8, 8, ops)
-}
-
-// Qubits 0 to 3 in zone A, 4 to 7 in zone B.
-fn placed(alloc: Global, trap: &Trap, circuit: &Circuit) -> Result<Placement, Fail>
-    ensures { IfOk result (IsPlacement trap.now circuit.now) }
-{
-    let lists = lists_of(alloc, trap, circuit, &[&[0, 1, 2, 3], &[4, 5, 6, 7]])?;
-    let placement = Placement::new(alloc, trap, circuit, lists)?;
-    Ok(placement)
 }
 
 // Whether each action passes its guards after those before it.
@@ -140,41 +126,6 @@ fn in_order(circuit: &Circuit, actions: &[Action]) -> bool
     true
 }
 
-fn op(zone: u32, op: u32) -> Action {
-    Action::Op {
-        zone: PlaceId(zone),
-        op: OpId(op),
-    }
-}
-
-fn split(zone: u32, end: End) -> Action {
-    Action::Split {
-        zone: PlaceId(zone),
-        end,
-        count: 1,
-    }
-}
-
-fn merge(zone: u32, end: End) -> Action {
-    Action::Merge {
-        zone: PlaceId(zone),
-        end,
-    }
-}
-
-// Whether the schedule has these steps.
-fn has_steps(schedule: &Schedule, steps: &[&[Action]]) -> bool {
-    if schedule.steps().len() != steps.len() {
-        return false;
-    }
-    for (k, step) in schedule.steps().iter().enumerate() {
-        if step.actions() != steps[k] {
-            return false;
-        }
-    }
-    true
-}
-
 // Tightens the list and compares the steps.
 fn tightens(
     rt: &impl Abort,
@@ -185,7 +136,7 @@ fn tightens(
 ) -> Result<(), Fail> {
     let trap = two_zones(alloc)?;
     let circuit = circuit_of(alloc, sorts)?;
-    let placement = placed(alloc, &trap, &circuit)?;
+    let placement = placed(alloc, &trap, &circuit, &[&[0, 1, 2, 3], &[4, 5, 6, 7]])?;
     let setting = Setting {
         trap: &trap,
         circuit: &circuit,
@@ -272,10 +223,10 @@ fn eight_qubits_in_fifteen_steps(rt: HostRuntime) -> Result<(), Fail> {
         op(0, 1),
         op(0, 2),
         op(0, 3),
-        split(1, End::A),
+        split(1, End::A, 1),
         merge(0, End::B),
         op(0, 4),
-        split(0, End::B),
+        split(0, End::B, 1),
         merge(1, End::A),
         op(1, 5),
         op(1, 6),
@@ -290,13 +241,13 @@ fn eight_qubits_in_fifteen_steps(rt: HostRuntime) -> Result<(), Fail> {
         op(1, 16),
     ];
     let steps: [&[Action]; 15] = [
-        &[op(0, 0), split(1, End::A)],
+        &[op(0, 0), split(1, End::A, 1)],
         &[op(0, 1)],
         &[op(0, 2)],
         &[op(0, 3)],
         &[merge(0, End::B)],
         &[op(0, 4)],
-        &[split(0, End::B)],
+        &[split(0, End::B, 1)],
         &[merge(1, End::A)],
         &[op(1, 5)],
         &[op(1, 6)],

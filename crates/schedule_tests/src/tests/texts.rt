@@ -1,16 +1,18 @@
 //! A text with every kind of line, and the first bad lines of others.
 
-use crate::{TextFault, print, read};
+use crate::tests::actions::{cross, goes, merge, op, split, swap};
+use crate::tests::places::placed;
+use crate::tests::steps::{has_steps, schedule_of};
 use circuit_core::{Angle, Angles, Circuit, Cond, Op};
-use qc_base::{Bit, CregId, End, JunctionId, Name, NoMemory, OpId, PlaceId, Qubit};
-use samples::{barrier, cx, lists_of, reset, segment, zones_at_a_junction};
+use qc_base::{Bit, CregId, End, Name, NoMemory, Qubit};
+use samples::{barrier, cx, reset, segment, zones_at_a_junction};
+use schedule_text::{TextFault, print, read};
 use std::alloc::Global;
-use std::process::Abort;
 use std::test::Fail;
-use step_rules::{Action, Placement, Schedule};
+use step_rules::{Action, Placement};
 use trap_model::{Need, Trap};
 
-/// Zone A by segment s to junction J, and from there by segment t to zone B. The slots are s.0, s.1, t.0 and t.1.
+// Zone A by segment s to junction J, and from there by segment t to zone B. The slots are s.0, s.1, t.0 and t.1.
 fn trap_of(alloc: Global) -> Result<Trap, Fail> {
     let segments = [segment(alloc, b"s", 2, 2)?, segment(alloc, b"t", 2, 2)?];
     zones_at_a_junction(
@@ -21,7 +23,7 @@ fn trap_of(alloc: Global) -> Result<Trap, Fail> {
     )
 }
 
-/// So many qubits, and two operations.
+// So many qubits, and two operations.
 fn circuit_of(alloc: Global, qubits: u32) -> Result<Circuit, Fail> {
     let ops = Vec::from_array(alloc, [cx(0, 1), cx(2, 0)])?;
     samples::circuit_of(alloc, qubits, 0, ops)
@@ -32,7 +34,7 @@ const IF_THREE: Option<Cond> = Some(Cond {
     value: 3,
 });
 
-/// An operation of each kind, some with a condition.
+// An operation of each kind, some with a condition.
 fn circuit_of_all_kinds(alloc: Global) -> Result<Circuit, Fail> {
     let rotation = Op::U {
         theta: Angle::Pi,
@@ -63,13 +65,6 @@ fn circuit_of_all_kinds(alloc: Global) -> Result<Circuit, Fail> {
     samples::circuit_of(alloc, 3, 2, Vec::from_array(alloc, ops)?)
 }
 
-/// A placement of two lists.
-fn place(alloc: Global, trap: &Trap, circuit: &Circuit) -> Result<Placement, Fail> {
-    let lists = lists_of(alloc, trap, circuit, &[&[2, 0], &[1]])?;
-    let placement = Placement::new(alloc, trap, circuit, lists)?;
-    Ok(placement)
-}
-
 fn is_placed(placement: &Placement, zones: (&[Qubit], &[Qubit])) -> bool {
     match placement.lists() {
         [first, second] => first.items() == zones.0 && second.items() == zones.1,
@@ -77,80 +72,12 @@ fn is_placed(placement: &Placement, zones: (&[Qubit], &[Qubit])) -> bool {
     }
 }
 
-fn push_all(rt: &impl Abort, schedule: &mut Schedule, actions: &[Action]) -> Result<(), NoMemory> {
-    for action in actions {
-        assert!(rt; !schedule.steps().is_empty());
-        schedule.push_action(*action)?;
-    }
-    Ok(())
-}
-
-fn schedule_of(rt: &impl Abort, alloc: Global, steps: &[&[Action]]) -> Result<Schedule, NoMemory> {
-    let mut schedule = Schedule::new(alloc);
-    for actions in steps {
-        schedule.push_step()?;
-        push_all(rt, &mut schedule, actions)?;
-    }
-    Ok(schedule)
-}
-
-fn has_steps(schedule: &Schedule, steps: &[&[Action]]) -> bool {
-    if schedule.steps().len() != steps.len() {
-        return false;
-    }
-    for (step, actions) in schedule.steps().iter().zip(steps) {
-        if step.actions() != *actions {
-            return false;
-        }
-    }
-    true
-}
-
-/// The ions 0 and 1 in A, and 2 in B.
+// The ions 0 and 1 in A, and 2 in B.
 const IN_A: [Qubit; 2] = [Qubit(2), Qubit(0)];
 
 const IN_B: [Qubit; 1] = [Qubit(1)];
 
-const FIRST: [Action; 2] = [
-    Action::Split {
-        zone: PlaceId(0),
-        end: End::B,
-        count: 2,
-    },
-    Action::Move {
-        from: PlaceId(2),
-        to: PlaceId(3),
-    },
-];
-
-const SECOND: [Action; 2] = [
-    Action::Cross {
-        junction: JunctionId(0),
-        from: PlaceId(3),
-        to: PlaceId(4),
-    },
-    Action::Merge {
-        zone: PlaceId(1),
-        end: End::A,
-    },
-];
-
-const LAST: [Action; 3] = [
-    Action::Swap {
-        zone: PlaceId(0),
-        index: 0,
-    },
-    Action::Op {
-        zone: PlaceId(0),
-        op: OpId(0),
-    },
-    Action::Op {
-        zone: PlaceId(4),
-        op: OpId(1),
-    },
-];
-
-/// The lines of the text of these.
+// The lines of the text of these.
 const LINES: [&[u8]; 16] = [
     b"qccd schedule 1\n",
     b"place A q[2] q[0]\n",
@@ -170,7 +97,7 @@ const LINES: [&[u8]; 16] = [
     b"end\n",
 ];
 
-/// The text with another line in place of the one with this number, from 1.
+// The text with another line in place of the one with this number, from 1.
 fn text_with(alloc: Global, number: usize, line: &[u8]) -> Result<Vec<u8>, NoMemory> {
     let mut text = Vec::new(alloc);
     let mut count = 0usize;
@@ -186,8 +113,11 @@ fn every_kind_of_line_is_printed_and_read(rt: HostRuntime) -> Result<(), Fail> {
     let alloc = rt.alloc();
     let trap = trap_of(alloc)?;
     let circuit = circuit_of(alloc, 3)?;
-    let placement = place(alloc, &trap, &circuit)?;
-    let steps: [&[Action]; 4] = [&FIRST, &SECOND, &[], &LAST];
+    let placement = placed(alloc, &trap, &circuit, &[&[2, 0], &[1]])?;
+    let first = [split(0, End::B, 2), goes(2, 3)];
+    let second = [cross(3, 4), merge(1, End::A)];
+    let last = [swap(0, 0), op(0, 0), op(4, 1)];
+    let steps: [&[Action]; 4] = [&first, &second, &[], &last];
     let schedule = schedule_of(&rt, alloc, &steps)?;
     let text = text_with(alloc, 0, b"")?;
     let printed = print(alloc, &trap, &circuit, &placement, &schedule)?;
@@ -196,13 +126,6 @@ fn every_kind_of_line_is_printed_and_read(rt: HostRuntime) -> Result<(), Fail> {
     assert!(rt; is_placed(&placement, (&IN_A, &IN_B)));
     assert!(rt; has_steps(&schedule, &steps));
     Ok(())
-}
-
-fn op_in_a(op: u32) -> Action {
-    Action::Op {
-        zone: PlaceId(0),
-        op: OpId(op),
-    }
 }
 
 const ALL_KINDS_TEXT: &[u8] = b"qccd schedule 1
@@ -224,8 +147,8 @@ fn operations_of_all_kinds_are_printed_and_read(rt: HostRuntime) -> Result<(), F
     let alloc = rt.alloc();
     let trap = trap_of(alloc)?;
     let circuit = circuit_of_all_kinds(alloc)?;
-    let placement = place(alloc, &trap, &circuit)?;
-    let actions = [0, 1, 2, 3, 4, 5].map(op_in_a);
+    let placement = placed(alloc, &trap, &circuit, &[&[2, 0], &[1]])?;
+    let actions = [0, 1, 2, 3, 4, 5].map(|number| op(0, number));
     let steps: [&[Action]; 1] = [&actions];
     let schedule = schedule_of(&rt, alloc, &steps)?;
     let printed = print(alloc, &trap, &circuit, &placement, &schedule)?;
@@ -235,12 +158,12 @@ fn operations_of_all_kinds_are_printed_and_read(rt: HostRuntime) -> Result<(), F
     Ok(())
 }
 
-/// Whether the bytes have this first bad line.
+// Whether the bytes have this first bad line.
 fn is_bad_at(alloc: Global, trap: &Trap, circuit: &Circuit, bytes: &[u8], number: u64) -> bool {
     read(alloc, trap, circuit, bytes).err() == Some(TextFault::Line { number })
 }
 
-/// A line's number, what is in its place, and the first bad line then.
+// A line's number, what is in its place, and the first bad line then.
 const EDITS: [(usize, &[u8], u64); 44] = [
     (1, b"qccd schedule 2\n", 1),
     (1, b"qccd  schedule 1\n", 1),

@@ -1,7 +1,7 @@
 use Rattle.std.proofs.Common.{ℕ, ◌<◌}
 use Rattle.circuit_core.specs.Order.{Forced}
 use Rattle.compact.specs.Orders.{IsPerformedAt}
-use Rattle.compact.proofs.tests.in_order.Given as goal
+use Rattle.schedule_tests.proofs.tests.tight.in_order.Given as goal
 
 -- what has to come before the operation of one of so many first actions is before it
 abbrev pub invariant-loop-place : goal.invariant-loop-place

@@ -1,33 +1,20 @@
 //! What is said of a schedule that brings an ion from one zone to another.
 
-use crate::{Counts, counts, least_line, legal_line, load_lines, report};
-use qc_base::{End, NoMemory, OpId, PlaceId};
-use samples::{ALL, circuit_of, lists_of, zones_apart};
+use crate::tests::actions::{merge, op, split};
+use crate::tests::places::placed;
+use crate::tests::steps::schedule_of;
+use qc_base::{End, NoMemory};
+use samples::{ALL, circuit_of, zones_apart};
+use schedule_report::{Counts, counts, least_line, legal_line, load_lines, report};
 use std::alloc::Global;
+use std::process::Abort;
 use std::test::Fail;
-use step_rules::{Action, Placement, Schedule, Setting};
+use step_rules::{Action, Schedule, Setting};
 
 // An ion of zone B comes into zone A, where an operation is performed.
-fn three_steps(alloc: Global) -> Result<Schedule, NoMemory> {
-    let (a, b) = (PlaceId(0), PlaceId(1));
-    let mut schedule = Schedule::new(alloc);
-    schedule.push_step()?;
-    schedule.push_action(Action::Split {
-        zone: b,
-        end: End::A,
-        count: 1,
-    })?;
-    schedule.push_step()?;
-    schedule.push_action(Action::Merge {
-        zone: a,
-        end: End::B,
-    })?;
-    schedule.push_step()?;
-    schedule.push_action(Action::Op {
-        zone: a,
-        op: OpId(0),
-    })?;
-    Ok(schedule)
+fn three_steps(rt: &impl Abort, alloc: Global) -> Result<Schedule, NoMemory> {
+    let steps: [&[Action]; 3] = [&[split(1, End::A, 1)], &[merge(0, End::B)], &[op(0, 0)]];
+    schedule_of(rt, alloc, &steps)
 }
 
 #[test]
@@ -35,14 +22,13 @@ fn report_of_two_zones(rt: HostRuntime) -> Result<(), Fail> {
     let alloc = rt.alloc();
     let trap = zones_apart(alloc, &[(4, &ALL), (4, &ALL)])?;
     let circuit = circuit_of(alloc, 1, 0, Vec::new(alloc))?;
-    let lists = lists_of(alloc, &trap, &circuit, &[&[0], &[]])?;
-    let placement = Placement::new(alloc, &trap, &circuit, lists)?;
+    let placement = placed(alloc, &trap, &circuit, &[&[0], &[]])?;
     let setting = Setting {
         trap: &trap,
         circuit: &circuit,
         placement: &placement,
     };
-    let text = report(alloc, &setting, &three_steps(alloc)?)?;
+    let text = report(alloc, &setting, &three_steps(&rt, alloc)?)?;
     assert!(rt;
         text.as_slice()
             == b"steps 3\nsplit 1\nmove 0\ncross 0\nmerge 1\nswap 0\nop 1\nparallel 1\nzone A ops 1 swaps 0 out 0 in 1\nzone B ops 0 swaps 0 out 1 in 0\nstep 1 actions 1 ops 0\nstep 2 actions 1 ops 0\nstep 3 actions 1 ops 1\n".as_slice()
@@ -53,7 +39,7 @@ fn report_of_two_zones(rt: HostRuntime) -> Result<(), Fail> {
 #[test]
 fn lines_of_a_check_a_verification_and_a_load(rt: HostRuntime) -> Result<(), Fail> {
     let alloc = rt.alloc();
-    let schedule = three_steps(alloc)?;
+    let schedule = three_steps(&rt, alloc)?;
     let wanted = Counts {
         steps: 3,
         actions: 3,

@@ -4,18 +4,17 @@ ghost use Rattle.std.specs.Prelude.{◌≡◌, ◌<◌, ◌^◌, length};
 ghost use Rattle.step_rules.specs.Config.{IsConfigOf};
 ghost use Rattle.step_rules.specs.Placement.{reading_order};
 
-use crate::action::{Action, Rule, Schedule};
-use crate::config::Config;
-use crate::conflict::{conflicts, footprint};
-use crate::placement::{GivenFault, Placement};
-use crate::rules::enabled;
-use crate::spots::Footprint;
+use crate::tests::actions::{cross, goes, merge, op, split, swap};
+use crate::tests::places::{compare, placed};
 use circuit_core::{Circuit, Qubits};
-use qc_base::{End, Ion, JunctionId, OpId, PlaceId, Qubit};
+use qc_base::{End, Ion, JunctionId, PlaceId, Qubit};
 use samples::{barrier, circuit_of, cx, lists_of, segment, zones_at_a_junction};
 use std::alloc::Global;
 use std::process::Abort;
 use std::test::Fail;
+use step_rules::{
+    Action, Config, Footprint, GivenFault, Placement, Rule, Schedule, conflicts, enabled, footprint,
+};
 use trap_model::{Need, Trap};
 
 // Zone A by segment s to junction J, and from there by segment t to zone B.
@@ -40,54 +39,6 @@ fn trap_of(alloc: Global, sketch: &Sketch) -> Result<Trap, Fail> {
 fn four_qubits(alloc: Global) -> Result<Circuit, Fail> {
     let wall = barrier(alloc, &[0, 1])?;
     circuit_of(alloc, 4, 0, Vec::from_array(alloc, [cx(0, 1), wall])?)
-}
-
-fn reads(ions: &[Ion], numbers: &[u32]) -> bool {
-    ions.iter().map(|ion| ion.0).eq(numbers.iter().copied())
-}
-
-fn split(zone: u32, end: End, count: u32) -> Action {
-    Action::Split {
-        zone: PlaceId(zone),
-        end,
-        count,
-    }
-}
-
-fn merge(zone: u32, end: End) -> Action {
-    Action::Merge {
-        zone: PlaceId(zone),
-        end,
-    }
-}
-
-fn goes(from: u32, to: u32) -> Action {
-    Action::Move {
-        from: PlaceId(from),
-        to: PlaceId(to),
-    }
-}
-
-fn cross(from: u32, to: u32) -> Action {
-    Action::Cross {
-        junction: JunctionId(0),
-        from: PlaceId(from),
-        to: PlaceId(to),
-    }
-}
-
-fn swap(zone: u32, index: u32) -> Action {
-    Action::Swap {
-        zone: PlaceId(zone),
-        index,
-    }
-}
-
-fn op(zone: u32, op: u32) -> Action {
-    Action::Op {
-        zone: PlaceId(zone),
-        op: OpId(op),
-    }
 }
 
 // Does the action where it passes its guards.
@@ -123,16 +74,6 @@ fn act_all(
     }
 }
 
-// Compares the lists of all places.
-fn compare(rt: &impl Abort, trap: &Trap, config: &Config, places: &[&[u32]])
-    requires { IsConfigOf trap.now config.now }
-{
-    assert!(rt; trap.places() as usize == places.len());
-    for place in 0..trap.places() {
-        assert!(rt; reads(config.list(PlaceId(place)), places[place as usize]));
-    }
-}
-
 // Plays actions, each with its answer, from the qubits of A and of B, and compares the lists of all places after them.
 fn plays(
     rt: &impl Abort,
@@ -144,8 +85,7 @@ fn plays(
 ) -> Result<(), Fail> {
     let trap = trap_of(alloc, sketch)?;
     let circuit = four_qubits(alloc)?;
-    let lists = lists_of(alloc, &trap, &circuit, &[zones.0, zones.1])?;
-    let placement = Placement::new(alloc, &trap, &circuit, lists)?;
+    let placement = placed(alloc, &trap, &circuit, &[zones.0, zones.1])?;
     let mut config = Config::start(alloc, &trap, &placement)?;
     act_all(rt, &trap, &circuit, &placement, &mut config, actions);
     compare(rt, &trap, &config, places);
@@ -322,8 +262,7 @@ fn lists_that_are_no_placement(rt: HostRuntime) -> Result<(), Fail> {
             Err(e) => assert!(rt; e == *fault),
         }
     }
-    let lists = lists_of(alloc, &trap, &circuit, &[&[2, 0], &[3, 1]])?;
-    let placement = Placement::new(alloc, &trap, &circuit, lists)?;
+    let placement = placed(alloc, &trap, &circuit, &[&[2, 0], &[3, 1]])?;
     assert!(rt; placement.ion_of(Qubit(3)) == Ion(2) && placement.ion_of(Qubit(0)) == Ion(1));
     assert!(rt; placed_count(placement.lists()) == 4);
     assert!(rt; placement.qubit_of(Ion(0)) == Qubit(2) && placement.qubit_of(Ion(2)) == Qubit(3));

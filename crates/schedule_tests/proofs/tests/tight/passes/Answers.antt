@@ -12,8 +12,8 @@ use Rattle.step_rules.specs.Placement.{start_of}
 use Rattle.step_rules.specs.Guards.{Passes}
 use Rattle.step_rules.specs.Steps.{after}
 use Rattle.step_rules.specs.Play.{AreLegal, one_at_a_time}
-use Rattle.compact.proofs.Testing.{legal_next, lists_next}
-use Rattle.compact.proofs.tests.passes.Goals as goal
+use Rattle.schedule_tests.proofs.Testing.{legal_next, lists_next}
+use Rattle.schedule_tests.proofs.tests.tight.passes.Goals as goal
 
 pub loop-action-preserved : goal.loop-action-preserved
 loop-action-preserved c =

@@ -1,8 +1,8 @@
 use Rattle.std.proofs.Common.{◌≡◌, ℕ, ◌<◌, rules, subst, sym, inl, inr, arith}
 use Rattle.std.proofs.lemmas.Bool.{cases_lt}
 use Rattle.compact.specs.Orders.{IsPerformedAt}
-use Rattle.compact.proofs.Testing.{in_order_of}
-use Rattle.compact.proofs.tests.in_order.Goals as goal
+use Rattle.schedule_tests.proofs.Testing.{in_order_of}
+use Rattle.schedule_tests.proofs.tests.tight.in_order.Goals as goal
 
 pub loop-place-preserved : goal.loop-place-preserved
 loop-place-preserved c = λ i j p q forced of_i of_j h. elim (cases_lt q c.loop-place.place) [

@@ -6,8 +6,8 @@ use Rattle.qc_base.specs.declared.ids.End.TheVariants.{A}
 use Rattle.step_rules.specs.declared.action.Action.{Action}
 use Rattle.step_rules.specs.declared.action.Action.TheVariants as kinds
 use Rattle.compact.specs.Orders.{Precedes}
-use Rattle.compact.proofs.Testing.{before_place, not_performed}
-use Rattle.compact.proofs.tests.stands_well.Goals as goal
+use Rattle.schedule_tests.proofs.Testing.{before_place, not_performed}
+use Rattle.schedule_tests.proofs.tests.tight.stands_well.Goals as goal
 
 abbrev no_action : Action
 no_action = kinds.Split (record { 0 = 0 }) A 0

@@ -2,7 +2,7 @@ use Rattle.std.proofs.Common.{◌≡◌, take}
 use Rattle.step_rules.specs.Config.{IsConfigOf}
 use Rattle.step_rules.specs.Placement.{start_of}
 use Rattle.step_rules.specs.Play.{AreLegal, after_steps, one_at_a_time}
-use Rattle.compact.proofs.tests.passes.Given as goal
+use Rattle.schedule_tests.proofs.tests.tight.passes.Given as goal
 
 -- the first actions are legal, and this is where the ions are after them
 abbrev pub invariant-loop-action : goal.invariant-loop-action
