@@ -1,8 +1,8 @@
 //! The shelf over files and the sink over a writer, and the words and the end of the program.
 
 use crate::exit_code;
-use crate::real::{RealShelf, RealSink};
 use qc_base::{Failed, Shelf, read_whole, write_all};
+use real_devices::{RealShelf, RealSink};
 use run_answers::Answer;
 use std::fs;
 use std::io::{self, ErrorKind, Write};
