@@ -1,6 +1,5 @@
-//! The shelf over files and the sink over a writer, and the words and the end of the program.
+//! The shelf over files, the sink over a writer, and the exit code of an answer.
 
-use crate::exit_code;
 use qc_base::{Failed, Shelf, read_whole, write_all};
 use real_devices::{RealShelf, RealSink};
 use run_answers::Answer;
@@ -67,6 +66,6 @@ fn a_file_that_cannot_be_opened_is_a_fault(rt: HostRuntime) -> Result<(), Fail> 
 
 #[test]
 fn the_exit_code_is_the_status_of_the_answer(rt: HostRuntime) -> Result<(), Fail> {
-    assert!(rt; exit_code(&Answer::NoMemory) == ExitCode::from(12));
+    assert!(rt; ExitCode::from(Answer::NoMemory.status()) == ExitCode::from(12));
     Ok(())
 }

@@ -1,10 +1,10 @@
 //! Answers with their statuses and lines, and lines of all kinds of pieces.
 
-use crate::{Answer, File, Large, Line, Names};
 use derivation_check::CertFault;
 use placement::PlaceFault;
 use qasm_read::QasmFault;
 use qc_base::{MemSink, Name, NoMemory, OpId, PlaceId, Qubit};
+use run_answers::{Answer, File, Large, Line, Names};
 use samples::{ALL, circuit_of, zones_apart};
 use schedule_play::PlayFault;
 use std::alloc::Global;

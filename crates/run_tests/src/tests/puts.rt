@@ -1,7 +1,7 @@
 //! Texts and certificates, put on a shelf in memory.
 
-use crate::{Certificate, Put, PutFault};
 use derivation_log::{LineId, Log};
+use put_file::{Certificate, Put, PutFault};
 use qc_base::{Items, MemShelf};
 use sat_base::{Bound, Head, Lit};
 use std::alloc::{AllocError, Global};

@@ -1,13 +1,14 @@
 //! Words, and what they ask for.
 
-use crate::{Exact, PlaceRule, Request, request_of};
+use request_words::{Exact, PlaceRule, Request, request_of};
 use std::alloc::{AllocError, Global};
 use std::process::Abort;
 use std::test::Fail;
 
 type Row<'a> = (&'a [&'a str], Option<Request<'a>>);
 
-fn words(alloc: Global, texts: &[&str]) -> Result<Vec<String>, AllocError> {
+/// The texts as words of a command line.
+pub fn words_of(alloc: Global, texts: &[&str]) -> Result<Vec<String>, AllocError> {
     let mut words = Vec::new(alloc);
     for text in texts {
         words.push(String::from_str(alloc, text)?)?;
@@ -18,7 +19,7 @@ fn words(alloc: Global, texts: &[&str]) -> Result<Vec<String>, AllocError> {
 /// Whether the words of each row ask for its request.
 fn ask(rt: &impl Abort, alloc: Global, rows: &[Row]) -> Result<(), Fail> {
     for (texts, request) in rows {
-        let words = words(alloc, texts)?;
+        let words = words_of(alloc, texts)?;
         assert!(rt; request_of(&words) == *request);
     }
     Ok(())
@@ -107,7 +108,7 @@ fn no_compilations(rt: HostRuntime) -> Result<(), Fail> {
         &["compile", "c", "t", "--exact=x", "--budget=0"],
     ];
     for texts in rows {
-        let words = words(rt.alloc(), texts)?;
+        let words = words_of(rt.alloc(), texts)?;
         assert!(rt; request_of(&words).is_none());
     }
     Ok(())
@@ -180,7 +181,7 @@ fn names_that_are_put(rt: HostRuntime) -> Result<(), Fail> {
         (&["load", "7", "s"], Some("s")),
     ];
     for (texts, name) in rows {
-        let words = words(rt.alloc(), texts)?;
+        let words = words_of(rt.alloc(), texts)?;
         let put = request_of(&words).and_then(|request| request.put());
         assert!(rt; put == name);
     }
