@@ -5,8 +5,6 @@ mod certificate;
 mod put;
 mod put_fault;
 mod putting;
-#[cfg(test)]
-mod tests;
 
 pub use certificate::Certificate;
 pub use put::Put;

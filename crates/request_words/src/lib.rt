@@ -4,8 +4,6 @@
 mod file;
 mod options;
 mod request;
-#[cfg(test)]
-mod tests;
 
 pub use file::File;
 pub use placement::PlaceRule;

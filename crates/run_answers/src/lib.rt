@@ -11,8 +11,6 @@ mod piece;
 mod place_lines;
 mod room_lines;
 mod schedule_lines;
-#[cfg(test)]
-mod tests;
 mod trap_lines;
 
 pub use answer::Answer;

@@ -1,0 +1,9 @@
+pub mod Went
+pub mod Known
+pub mod Compiled
+pub mod Finishing
+pub mod Settled
+pub mod Prepared
+pub mod RoundTrip
+pub mod OneOutcome
+pub mod Least

@@ -1,0 +1,5 @@
+pub mod Run
+pub mod Headline
+pub mod RoundTrip
+-- ---- working notions of private functions
+pub mod Preparing

@@ -1,5 +1,0 @@
-use Rattle.qccd.proofs.Least.{verified_least}
-use Rattle.qccd.proofs.laws.a_verified_schedule_is_least.Goals as goal
-
-pub returns : goal.returns
-returns c = verified_least c.accepted_schedules_are_least.ensures

@@ -1,5 +1,0 @@
-use Rattle.qccd.proofs.OneOutcome.{prepares-one}
-use Rattle.qccd.proofs.laws.one_outcome.Goals as goal
-
-pub returns : goal.returns
-returns c = prepares-one c.one_verification.ensures
