@@ -6,8 +6,6 @@ mod linked;
 mod propagation;
 mod restarts;
 mod solver;
-#[cfg(test)]
-mod tests;
 mod verdict;
 mod watching;
 

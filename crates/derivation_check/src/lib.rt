@@ -8,8 +8,6 @@ mod items;
 mod judge;
 mod laws;
 mod line;
-#[cfg(test)]
-mod tests;
 
 pub use cert_fault::CertFault;
 pub use checker::Checker;

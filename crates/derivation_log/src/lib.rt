@@ -6,8 +6,6 @@ mod laws;
 mod line_id;
 mod log;
 mod printer;
-#[cfg(test)]
-mod tests;
 mod words;
 
 pub use laws::{first_lines_are_derived, first_lines_are_good};

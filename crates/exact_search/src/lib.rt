@@ -7,8 +7,6 @@ mod found;
 mod laws;
 mod search;
 mod task;
-#[cfg(test)]
-mod tests;
 
 pub use exact::least;
 pub use fault::{Count, ExactFault};

@@ -6,7 +6,5 @@ mod activity;
 mod chains;
 mod reader;
 mod schedule;
-#[cfg(test)]
-mod tests;
 
 pub use schedule::schedule_of;

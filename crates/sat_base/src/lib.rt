@@ -9,8 +9,6 @@ mod laws;
 mod lit;
 mod lit_set;
 mod resolution;
-#[cfg(test)]
-mod tests;
 
 pub use assignment::Assignment;
 pub use certificate::{Bound, Head};

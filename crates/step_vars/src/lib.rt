@@ -11,8 +11,6 @@ mod item;
 mod laws;
 mod sizes;
 mod tables;
-#[cfg(test)]
-mod tests;
 mod vars;
 
 pub use abilities::is_able;

@@ -7,8 +7,6 @@ mod fault;
 mod judge;
 mod laws;
 mod minimum;
-#[cfg(test)]
-mod tests;
 mod verification;
 mod verify_fault;
 
