@@ -1,4 +1,4 @@
-//! Tests of the encoding's numbers, schedules of models, searches and verifications, over public calls.
+//! Tests of the encoding's variables and models, of the search for fewest steps, and of verification.
 #![tactic(auto)]
 
 #[cfg(test)]

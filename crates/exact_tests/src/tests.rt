@@ -1,6 +1,8 @@
-//! One file for each subject.
+//! A module for each subject, and what several of them make: items, and settings with their variables.
 
-mod models;
+mod items;
+mod judging;
 mod numbers;
+mod schedules;
 mod searches;
-mod verifications;
+mod settings;

@@ -1,4 +1,4 @@
-//! Tests of clauses, at-most lists, derivations, their checker, watch lists and the solver, over public calls.
+//! Tests of clauses, of limits as clauses, of logs of derivations and their checker, and of the solver.
 #![tactic(auto)]
 
 #[cfg(test)]

@@ -1,8 +1,8 @@
-//! One file for each subject.
+//! A module for each subject.
 
 mod certificates;
-mod clauses;
+mod formulas;
 mod limits;
-mod lists;
 mod logs;
-mod solving;
+mod searches;
+mod watches;

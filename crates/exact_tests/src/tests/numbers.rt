@@ -2,29 +2,27 @@
 
 ghost use Rattle.std.specs.Prelude.{◌≡◌, IfOk};
 
-use qc_base::{Ion, OpId, PlaceId};
-use samples::{circuit_of, cx, lists_of, zones_at_a_slot};
+use crate::tests::items::{at, leaves, ord, performed, swapped, uses};
+use crate::tests::settings::{pair_of_four, placed, two_zones, variables};
 use std::alloc::Global;
 use std::process::Abort;
 use std::test::Fail;
-use step_rules::Placement;
+use step_rules::Setting;
 use step_vars::{Encoding, Item, Vars};
-use trap_model::Need;
 
-// Zones A and B of capacity 4, of which A performs operations on two qubits, joined by one slot; two qubits
-// in each zone, and a CX of two of these four.
-#[tactic(auto, unfolding(step_vars::specs::Encoding::vars_of))]
+// The variables of one step where two qubits are in each of two zones.
 fn vars(rt: &impl Abort, alloc: Global, encoding: Encoding) -> Result<Vars, Fail>
     ensures { IfOk result (λ vars. vars.steps ≡ 1) }
 {
-    let trap = zones_at_a_slot(alloc, &[(4, &[Need::Two]), (4, &[])])?;
-    let circuit = circuit_of(alloc, 4, 0, Vec::from_array(alloc, [cx(1, 2)])?)?;
-    let lists = lists_of(alloc, &trap, &circuit, &[&[0, 1], &[2, 3]])?;
-    let placement = Placement::new(alloc, &trap, &circuit, lists)?;
-    assert!(rt; trap.places() <= 48);
-    assert!(rt; circuit.ops().len() <= 200);
-    let vars = Vars::new(alloc, &trap, &circuit, &placement, 1, encoding)?;
-    Ok(vars)
+    let trap = two_zones(alloc)?;
+    let circuit = pair_of_four(alloc)?;
+    let placement = placed(alloc, &trap, &circuit, &[&[0, 1], &[2, 3]])?;
+    let setting = Setting {
+        trap: &trap,
+        circuit: &circuit,
+        placement: &placement,
+    };
+    variables(rt, alloc, &setting, 1, encoding)
 }
 
 // Compares each number up to the last with that of its item; the helpers are from the first one to the goal.
@@ -57,51 +55,6 @@ fn two_zones_in_both_encodings(rt: HostRuntime) -> Result<(), Fail> {
     Ok(())
 }
 
-fn at(ion: u32, place: u32, time: u32) -> Item {
-    Item::At {
-        ion: Ion(ion),
-        place: PlaceId(place),
-        time,
-    }
-}
-
-fn ord(first: u32, second: u32, time: u32) -> Item {
-    Item::Ord {
-        first: Ion(first),
-        second: Ion(second),
-        time,
-    }
-}
-
-fn swap(first: u32, second: u32, zone: u32) -> Item {
-    Item::Swap {
-        first: Ion(first),
-        second: Ion(second),
-        zone: PlaceId(zone),
-        step: 1,
-    }
-}
-
-fn act(op: u32, zone: u32) -> Item {
-    Item::Act {
-        op: OpId(op),
-        zone: PlaceId(zone),
-        step: 1,
-    }
-}
-
-fn leave(ion: u32, channel: u32) -> Item {
-    Item::Leave {
-        ion: Ion(ion),
-        channel,
-        step: 1,
-    }
-}
-
-fn uses(channel: u32, step: u32) -> Item {
-    Item::Use { channel, step }
-}
-
 #[test]
 fn numbers_of_items(rt: HostRuntime) -> Result<(), Fail> {
     let vars = vars(&rt, rt.alloc(), Encoding::Pairwise)?;
@@ -111,10 +64,10 @@ fn numbers_of_items(rt: HostRuntime) -> Result<(), Fail> {
         (at(0, 0, 1), Some(21)),
         (ord(2, 3, 1), Some(38)),
         (uses(3, 1), Some(42)),
-        (leave(2, 1), Some(52)),
-        (swap(1, 2, 1), Some(66)),
-        (act(0, 0), Some(71)),
-        (act(0, 1), None),
+        (leaves(2, 1, 1), Some(52)),
+        (swapped(1, 2, 1, 1), Some(66)),
+        (performed(0, 0, 1), Some(71)),
+        (performed(0, 1, 1), None),
         (uses(4, 1), None),
         (uses(0, 0), None),
         (ord(2, 1, 0), None),

@@ -1,14 +1,12 @@
 //! Searches in a trap of one zone, and in one of four zones around a junction.
 
+use crate::tests::settings::placed;
 use circuit_core::{Cond, Op};
 use exact_search::{Count, ExactFault, Found, least};
 use qc_base::{CregId, End, Name, Qubit};
-use samples::{
-    ALL, circuit_of, cx, join, lists_of, measure, segment, trap_of, zones_apart, zones_of,
-};
+use samples::{ALL, circuit_of, cx, join, measure, segment, trap_of, zones_apart, zones_of};
 use std::alloc::Global;
 use std::test::Fail;
-use step_rules::Placement;
 use trap_model::{Trap, TrapParts};
 
 // What the search for these operations on so many qubits, all in one zone, comes to.
@@ -24,8 +22,7 @@ fn search(
     for number in 0..qubits {
         numbers.push(number)?;
     }
-    let lists = lists_of(alloc, &trap, &circuit, &[numbers.as_slice()])?;
-    let placement = Placement::new(alloc, &trap, &circuit, lists)?;
+    let placement = placed(alloc, &trap, &circuit, &[numbers.as_slice()])?;
     let (max, budget) = limits;
     Ok(least(alloc, &trap, &circuit, &placement, max, budget))
 }
@@ -123,8 +120,7 @@ fn a_junction_with_four_arms(rt: HostRuntime) -> Result<(), Fail> {
     let alloc = rt.alloc();
     let trap = star(alloc)?;
     let circuit = circuit_of(alloc, 3, 0, Vec::from_array(alloc, [cx(0, 2)])?)?;
-    let lists = lists_of(alloc, &trap, &circuit, &[&[0, 1], &[2], &[], &[]])?;
-    let placement = Placement::new(alloc, &trap, &circuit, lists)?;
+    let placement = placed(alloc, &trap, &circuit, &[&[0, 1], &[2], &[], &[]])?;
     let found = least(alloc, &trap, &circuit, &placement, 48, 100000);
     assert!(rt; is_least(&found, 4, (2639, 4)));
     Ok(())
@@ -144,8 +140,7 @@ fn a_measurement_and_a_condition(rt: HostRuntime) -> Result<(), Fail> {
     let ops = Vec::from_array(alloc, [measure(0, 0), reset])?;
     let circuit = circuit_of(alloc, 2, 1, ops)?;
     let trap = zones_apart(alloc, &[(3, &ALL)])?;
-    let lists = lists_of(alloc, &trap, &circuit, &[&[0, 1]])?;
-    let placement = Placement::new(alloc, &trap, &circuit, lists)?;
+    let placement = placed(alloc, &trap, &circuit, &[&[0, 1]])?;
     let found = least(alloc, &trap, &circuit, &placement, 48, 1000);
     assert!(rt; is_least(&found, 2, (33, 2)));
     Ok(())

@@ -12,24 +12,24 @@ use step_rules::Rule;
 use trap_model::Trap;
 use verify_core::{CheckFault, VerifyFault, check, one_judgement, one_verification, verify};
 
-/// One zone with room for three ions.
+// One zone with room for three ions.
 fn one_zone(alloc: Global) -> Result<Trap, Fail> {
     zones_apart(alloc, &[(3, &ALL)])
 }
 
-/// Two operations on a pair of qubits, of which the first has to come before the second.
+// Two operations on a pair of qubits, of which the first has to come before the second.
 fn ordered(alloc: Global) -> Result<Circuit, Fail> {
     circuit_of(alloc, 2, 0, Vec::from_array(alloc, [cx(0, 1), cx(1, 0)])?)
 }
 
-/// A text with this body.
+// A text with this body.
 fn with_body(alloc: Global, body: &[u8]) -> Result<Vec<u8>, NoMemory> {
     let mut text = Vec::from_slice(alloc, b"qccd schedule 1\nplace A q[0] q[1]\n")?;
     text.extend_from_slice(body)?;
     Ok(text)
 }
 
-/// Whether the text with each body has this fault.
+// Whether the text with each body has this fault.
 fn faults(rt: &impl Abort, alloc: Global, rows: &[(&[u8], CheckFault)]) -> Result<(), Fail> {
     let trap = one_zone(alloc)?;
     let circuit = ordered(alloc)?;
@@ -97,7 +97,7 @@ fn schedules_that_are_not_legal(rt: HostRuntime) -> Result<(), Fail> {
     faults(&rt, rt.alloc(), &rows)
 }
 
-/// What is answered of the schedule with this body, and of a certificate with these lines after its first.
+// What is answered of the schedule with this body, and of a certificate with these lines after its first.
 fn verified(
     alloc: Global,
     circuit: &Circuit,

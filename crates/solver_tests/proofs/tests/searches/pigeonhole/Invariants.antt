@@ -1,5 +1,5 @@
 use Rattle.std.proofs.Common.{◌≡◌, []}
-use Rattle.solver_tests.proofs.tests.solving.pigeonhole.Given as goal
+use Rattle.solver_tests.proofs.tests.searches.pigeonhole.Given as goal
 
 abbrev pub invariant-loop-i : goal.invariant-loop-i
 invariant-loop-i l = (l.solver.trail.vars ≡ 31) × (l.solver.log.derived ≡ [])

@@ -2,7 +2,7 @@ use Rattle.std.proofs.Common.{◌≡◌, ℕ, ◌<◌, ◌*◌, List, [], ◌∷
 use Rattle.std.specs.Prelude.{Option}
 use Rattle.std.specs.Option.{IfSome}
 use Rattle.watch_lists.specs.Watched.{Watched, list_of}
-use Rattle.solver_tests.proofs.tests.lists.move_all.Goals as goal
+use Rattle.solver_tests.proofs.tests.watches.move_all.Goals as goal
 
 abbrev is_none : Option ℕ → Type 0
 is_none None = Unit {0}

@@ -7,43 +7,21 @@ ghost use Rattle.step_vars.specs.Numbering.{before};
 ghost use Rattle.step_vars.specs.Encoding.{IsSmall, vars_of, part_of, encoding_of};
 ghost use Rattle.step_models.specs.Models.{IsModel};
 
+use crate::tests::items::{at, done, leaves, ord, performed, swapped, uses};
+use crate::tests::settings::{pair_of_four, placed, two_zones, variables};
 use circuit_core::Circuit;
 use extract::schedule_of;
-use qc_base::{End, Ion, NoMemory, OpId, PlaceId};
-use samples::{circuit_of, cx, lists_of, zones_apart, zones_at_a_slot};
+use qc_base::{End, NoMemory, OpId, PlaceId};
+use samples::{circuit_of, cx, zones_apart};
 use sat_base::{Assignment, Formula};
 use std::alloc::Global;
 use std::process::Abort;
 use std::test::Fail;
 use step_clauses::{goal, layer};
 use step_models::parts_name_their_variables;
-use step_rules::{Action, Placement, Schedule, Setting, traps_and_circuits_are_sound};
+use step_rules::{Action, Schedule, Setting, traps_and_circuits_are_sound};
 use step_vars::{Claim, Encoding, Item, Vars};
-use trap_model::{Need, Trap};
-
-// Zones A and B of capacity 4, of which A performs operations on two qubits, joined by one slot of load 1.
-fn two_zones(alloc: Global) -> Result<Trap, Fail> {
-    zones_at_a_slot(alloc, &[(4, &[Need::Two]), (4, &[])])
-}
-
-// Four qubits and a CX of two of them.
-fn pair_of_four(alloc: Global) -> Result<Circuit, Fail> {
-    circuit_of(alloc, 4, 0, Vec::from_array(alloc, [cx(1, 2)])?)
-}
-
-// The qubits of these numbers, a list for each zone.
-fn placed(
-    alloc: Global,
-    trap: &Trap,
-    circuit: &Circuit,
-    zones: &[&[u32]],
-) -> Result<Placement, Fail>
-    ensures { IfOk result (IsPlacement trap.now circuit.now) }
-{
-    let lists = lists_of(alloc, trap, circuit, zones)?;
-    let placement = Placement::new(alloc, trap, circuit, lists)?;
-    Ok(placement)
-}
+use trap_model::Need;
 
 // The values in which these items alone are true.
 fn values_of(
@@ -101,25 +79,6 @@ fn clauses(alloc: Global, vars: &Vars, setting: &Setting, last: u32) -> Result<F
     Ok(formula)
 }
 
-// The variables up to a number of steps, within the limits of exact mode.
-fn variables(
-    rt: &impl Abort,
-    alloc: Global,
-    setting: &Setting,
-    last: u32,
-    encoding: Encoding,
-) -> Result<Vars, Fail>
-    ensures vars { IfOk result (λ vars. vars ≡ vars_of setting.now vars.encoding vars.steps) }
-    ensures small { IfOk result (λ vars. IsSmall setting.now vars.steps) }
-    ensures steps { IfOk result (λ vars. vars.steps ≡ last) }
-{
-    let (trap, circuit, placement) = (setting.trap, setting.circuit, setting.placement);
-    assert!(rt; circuit.qubits() <= 16 && trap.places() <= 48);
-    assert!(rt; circuit.ops().len() <= 200 && last <= 48);
-    let vars = Vars::new(alloc, trap, circuit, placement, last, encoding)?;
-    Ok(vars)
-}
-
 // Whether these values are a model of the parts up to a time.
 fn is_model(
     vars: &Vars,
@@ -168,55 +127,6 @@ fn read_back(
 fn is(schedule: &Schedule, steps: &[&[Action]]) -> bool {
     let actions = schedule.steps().iter().map(|step| step.actions());
     actions.eq(steps.iter().copied())
-}
-
-fn at(ion: u32, place: u32, time: u32) -> Item {
-    Item::At {
-        ion: Ion(ion),
-        place: PlaceId(place),
-        time,
-    }
-}
-
-fn ord(first: u32, second: u32, time: u32) -> Item {
-    Item::Ord {
-        first: Ion(first),
-        second: Ion(second),
-        time,
-    }
-}
-
-fn swapped(first: u32, second: u32, zone: u32, step: u32) -> Item {
-    Item::Swap {
-        first: Ion(first),
-        second: Ion(second),
-        zone: PlaceId(zone),
-        step,
-    }
-}
-
-fn performed(op: u32, zone: u32, step: u32) -> Item {
-    Item::Act {
-        op: OpId(op),
-        zone: PlaceId(zone),
-        step,
-    }
-}
-
-fn done(op: u32, time: u32) -> Item {
-    Item::Done { op: OpId(op), time }
-}
-
-fn leaves(ion: u32, channel: u32, step: u32) -> Item {
-    Item::Leave {
-        ion: Ion(ion),
-        channel,
-        step,
-    }
-}
-
-fn uses(channel: u32, step: u32) -> Item {
-    Item::Use { channel, step }
 }
 
 const SPLIT: Action = Action::Split {

@@ -1,5 +1,5 @@
 use Rattle.std.proofs.Common.{◌≡◌, []}
-use Rattle.solver_tests.proofs.tests.solving.with_far_clauses.Given as goal
+use Rattle.solver_tests.proofs.tests.searches.with_far_clauses.Given as goal
 
 abbrev pub invariant-loop-k : goal.invariant-loop-k
 invariant-loop-k l = record {

@@ -2,7 +2,7 @@ use Rattle.std.proofs.Common.{◌≡◌, ap, ◌∙◌}
 use Rattle.step_rules.specs.Setting.{SettingValue}
 use Rattle.step_vars.specs.Encoding.{vars_of}
 use Rattle.step_vars.proofs.OfSetting.{as_made, steps_are}
-use Rattle.exact_tests.proofs.tests.models.variables.Goals as goal
+use Rattle.exact_tests.proofs.tests.settings.variables.Goals as goal
 
 pub returns-clause-vars : goal.returns-clause-vars
 returns-clause-vars g c =

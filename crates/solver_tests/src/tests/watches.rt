@@ -25,7 +25,7 @@ fn words_stay_while_the_memory_grows(rt: HostRuntime) -> Result<(), Fail> {
     for word in 0..1000 {
         words.push(word)?;
     }
-    for _done in 0..1000 {
+    for _ in 0..1000 {
         words.push(u32::MAX)?;
     }
     let len = words.len();
@@ -71,6 +71,22 @@ fn the_first_link_moves_to_an_empty_list(rt: HostRuntime) -> Result<(), Fail> {
     assert!(rt; watches.head(two).is_none());
     assert!(rt; watches.head(other) == Some(1));
     assert!(rt; watches.head(one) == Some(0));
+    Ok(())
+}
+
+#[test]
+fn lists_stay_while_the_memory_grows(rt: HostRuntime) -> Result<(), Fail> {
+    let mut watches = Watches::new(rt.alloc());
+    watches.add_vars(2)?;
+    let (one, two) = (Lit::new(1, true), Lit::new(2, true));
+    watches.add_clause(one, two)?;
+    watches.add_vars(250)?;
+    assert!(rt; watches.head(one) == Some(0));
+    assert!(rt; watches.head(two) == Some(1));
+    for var in 3..253 {
+        assert!(rt; watches.head(Lit::new(var, true)).is_none());
+        assert!(rt; watches.head(Lit::new(var, false)).is_none());
+    }
     Ok(())
 }
 

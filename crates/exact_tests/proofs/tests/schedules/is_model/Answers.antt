@@ -17,7 +17,7 @@ use Rattle.step_vars.proofs.OfSetting.{goal_there, goal_last, goal_named}
 use Rattle.step_facts.specs.Run.{IsSetting}
 use Rattle.extract.proofs.Listed.{numbering_is}
 use Rattle.extract.proofs.Settings.{small_up_to}
-use Rattle.exact_tests.proofs.tests.models.is_model.Goals as goal
+use Rattle.exact_tests.proofs.tests.schedules.is_model.Goals as goal
 
 pub satisfies-requires : goal.satisfies-requires
 satisfies-requires c =

@@ -1,7 +1,7 @@
 use Rattle.std.proofs.Common.{[], ap, ◌∙◌}
 use Rattle.sat_base.specs.Literal.{Literal}
 use Rattle.watch_lists.specs.Watched.{list_of, no_watches, with_vars, with_clause}
-use Rattle.solver_tests.proofs.tests.lists.a_link_moves_to_another_list.Goals as goal
+use Rattle.solver_tests.proofs.tests.watches.a_link_moves_to_another_list.Goals as goal
 
 pub relink-requires-clause-follows : goal.relink-requires-clause-follows
 relink-requires-clause-follows g c =
