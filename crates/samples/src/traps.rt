@@ -44,7 +44,8 @@ fn junctions_named(junctions: &[Name]) -> bool
     true
 }
 
-fn are_named(parts: &TrapParts) -> bool
+/// Whether the name of each zone, segment and junction has the form of a name.
+pub fn are_named(parts: &TrapParts) -> bool
     ensures { IsTrue result → AreNames (names_of (lists parts.now)) }
 {
     if !zones_named(parts.zones.as_slice()) {

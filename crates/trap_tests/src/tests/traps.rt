@@ -1,32 +1,14 @@
 //! Faulty parts, and a trap with two junctions.
 
-ghost use Rattle.std.specs.Prelude.{◌≡◌, ◌≤◌, IsTrue, length};
-ghost use Rattle.trap_model.specs.Trap.{lists, names_of};
-ghost use Rattle.trap_model.specs.Build.{AreNames};
-
-use crate::channel::{Channel, Kind};
-use crate::fault::{Counted, TrapFault};
-use crate::labels::{GivenLabels, Labels};
-use crate::names::is_name;
-use crate::parts::{EndName, JoinPart, Need, SegmentPart, TrapParts, ZonePart};
-use crate::trap::Trap;
 use qc_base::{End, JunctionId, Name, NoMemory, PlaceId};
+use samples::{are_named, segment, zone};
 use std::alloc::Global;
 use std::process::Abort;
 use std::test::Fail;
-
-// Whether each name has the form of one.
-fn are_names(parts: &TrapParts) -> bool
-    requires { length (names_of (lists parts.now)) ≤ 320 }
-    ensures { IsTrue result → AreNames (names_of (lists parts.now)) }
-{
-    for k in 0..parts.name_count() {
-        if !is_name(parts.name_at(k).bytes()) {
-            return false;
-        }
-    }
-    true
-}
+use trap_model::{
+    Channel, Counted, EndName, GivenLabels, JoinPart, Kind, Labels, Need, Trap, TrapFault,
+    TrapParts,
+};
 
 // Parts of a trap, in short.
 #[derive(Drop)]
@@ -47,22 +29,15 @@ impl Sketch {
     }
 
     fn zone(&mut self, alloc: Global, name: &[u8], capacity: u32) -> Result<(), Fail> {
-        self.parts.zones.push(ZonePart {
-            name: Name::from_bytes(alloc, name)?,
-            capacity,
-            one: true,
-            two: false,
-            read: true,
-        })?;
+        let able = [Need::One, Need::Read];
+        self.parts.zones.push(zone(alloc, name, capacity, &able)?)?;
         Ok(())
     }
 
     fn segment(&mut self, alloc: Global, name: &[u8], slots: u32, load: u32) -> Result<(), Fail> {
-        self.parts.segments.push(SegmentPart {
-            name: Name::from_bytes(alloc, name)?,
-            slots,
-            load,
-        })?;
+        self.parts
+            .segments
+            .push(segment(alloc, name, slots, load)?)?;
         Ok(())
     }
 
@@ -95,10 +70,7 @@ fn end_name(alloc: Global, text: &[u8]) -> Result<EndName, NoMemory> {
 
 fn build(rt: &impl Abort, alloc: Global, sketch: Sketch) -> Result<Trap, TrapFault> {
     let Sketch { parts } = sketch;
-    let (zones, junctions) = (parts.zones.len(), parts.junctions.len());
-    assert!(rt; zones <= 33 && parts.segments.len() <= 257);
-    assert!(rt; junctions <= 30 || zones <= 1 && junctions <= 62);
-    assert!(rt; are_names(&parts));
+    assert!(rt; are_named(&parts));
     Trap::build(alloc, parts)
 }
 

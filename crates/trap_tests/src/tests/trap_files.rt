@@ -1,12 +1,11 @@
 //! Trap files that are read, and each refusal.
 
-use crate::fault::{KeyAt, Section, TrapText};
-use crate::file::read;
 use qc_base::{Name, NoMemory};
 use std::alloc::Global;
 use std::process::Abort;
 use std::test::Fail;
 use trap_model::TrapFault;
+use trap_read::{KeyAt, Section, TrapText, read};
 
 const TWO_ZONES: &[u8] = b"[[zone]]\nname = \"A\"\ncapacity = 4\ncan = [\"one\", \"read\"]\n\
     [[zone]]\nname = \"B\"\ncapacity = 3\n[[segment]]\nname = \"s\"\nslots = 1\nload = 2\n\

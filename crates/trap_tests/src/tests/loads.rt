@@ -1,7 +1,7 @@
 //! The first gate of a load.
 
-use crate::{GATES, Words, generate};
 use circuit_core::Op;
+use load_setup::{GATES, Words, generate};
 use qc_base::Qubit;
 use std::test::Fail;
 

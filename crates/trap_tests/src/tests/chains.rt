@@ -2,8 +2,7 @@
 
 ghost use Rattle.std.specs.Prelude.{◌≡◌, ◌+◌, ◌≤◌, length, IfOk};
 
-use crate::chain::Chain;
-use crate::transfer::Transfer;
+use ion_chain::{Chain, Transfer};
 use qc_base::{End, Ion, PlaceId};
 use std::alloc::Global;
 use std::process::Abort;

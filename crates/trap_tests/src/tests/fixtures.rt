@@ -1,10 +1,10 @@
 //! Samples that are made.
 
-use crate::{
+use qc_base::{End, Qubit};
+use samples::{
     barrier, circuit_of, cx, lists_of, measure, reset, segment, turn, zones_apart,
     zones_at_a_junction, zones_at_a_slot,
 };
-use qc_base::{End, Qubit};
 use std::test::Fail;
 use trap_model::Need;
 

@@ -1,5 +1,5 @@
 use Rattle.std.proofs.Common.{◌≡◌, ◌+◌, ◌≤◌, length}
-use Rattle.ion_chain.proofs.tests.chain_of.Given as goal
+use Rattle.trap_tests.proofs.tests.chains.chain_of.Given as goal
 
 -- there is room for the numbers that are left
 abbrev pub invariant-loop-number : goal.invariant-loop-number

@@ -2,10 +2,8 @@
 
 ghost use Rattle.std.specs.Prelude.{◌≡◌, length, IfOk};
 
-use crate::fault::PlaceFault;
-use crate::placing::place;
-use crate::rule::PlaceRule;
 use circuit_core::{Circuit, Qubits};
+use placement::{PlaceFault, PlaceRule, place};
 use qc_base::{Name, NoMemory, PlaceId, Qubit};
 use samples::{ALL, cx, reset, zones_apart};
 use std::alloc::Global;

@@ -1,8 +1,7 @@
 //! Routes and distances in a trap of three zones, two of which a segment joins.
 
-use crate::distances::Distances;
-use crate::routes::route;
 use qc_base::PlaceId;
+use route_find::{Distances, route};
 use samples::{ALL, zones_at_a_slot};
 use std::alloc::Global;
 use std::test::Fail;
