@@ -1,9 +1,9 @@
 //! Traps.
 
 ghost use Rattle.std.specs.Prelude.{IsTrue, All};
-ghost use Rattle.trap_model.specs.Names.{is_name as is_name_of};
-ghost use Rattle.trap_model.specs.Trap.{lists, names_of};
-ghost use Rattle.trap_model.specs.Build.{AreNames};
+ghost use Rattle.trap_parts.specs.Names.{is_name as is_name_of};
+ghost use Rattle.trap_parts.specs.Parts.{lists, names_of};
+ghost use Rattle.trap_parts.specs.Build.{AreNames};
 
 use crate::parts::{join, zones_of};
 use qc_base::{End, Name};
