@@ -1,6 +1,6 @@
 -- The lists that the families run over.
 use Rattle.std.specs.Prelude.{◌≡◌}
-use Rattle.trap_model.specs.Build.{IsTrap}
+use Rattle.trap_parts.specs.Build.{IsTrap}
 use Rattle.trap_model.specs.Channels.{channels_of, AreWithin}
 use Rattle.step_rules.specs.Setting.{SettingValue}
 use Rattle.step_vars.specs.Lists.{ions_of, places_of, zones_of, junctions_of, performed, acts_of, orders_of, numbered_channels}

@@ -1,7 +1,7 @@
 //! What the families run over.
 
 ghost use Rattle.std.specs.Prelude.{◌≡◌, ◌≤◌, IfOk, length};
-ghost use Rattle.trap_model.specs.Build.{IsTrap};
+ghost use Rattle.trap_parts.specs.Build.{IsTrap};
 ghost use Rattle.trap_model.specs.Channels.{channels_of, AreWithin};
 ghost use Rattle.step_vars.specs.Lists.{ions_of, places_of, zones_of, junctions_of, performed, numbered_channels};
 ghost use Rattle.step_vars.specs.Encoding.{vars_of};

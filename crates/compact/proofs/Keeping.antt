@@ -6,7 +6,7 @@ use Rattle.std.proofs.lemmas.Bool.{cases_order, cases_eq, cases_lt}
 use Rattle.std.proofs.lemmas.List.{length_push, length-take-le, length-set, length-replicate, get_or-replicate, get_or-set_same, get_or-set_other}
 use Rattle.qc_base.specs.declared.ids.OpId.{OpId}
 use Rattle.qc_base.specs.declared.ids.PlaceId.{PlaceId}
-use Rattle.trap_model.specs.Trap.{TrapValue}
+use Rattle.trap_parts.specs.Parts.{TrapValue}
 use Rattle.circuit_core.specs.declared.op.Op.{Op}
 use Rattle.circuit_core.specs.Circuit.{CircuitValue}
 use Rattle.circuit_core.specs.Order.{Wire, on_qubit, on_bit, IsWire, Share, Forced, by_wire, by_barrier}

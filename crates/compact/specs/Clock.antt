@@ -1,6 +1,6 @@
 -- What is kept of the actions that have their steps: working notions of private functions.
 use Rattle.std.specs.Prelude.{ℕ, ◌<◌, ◌≤◌, All, List, length, take, Contains}
-use Rattle.trap_model.specs.Trap.{TrapValue}
+use Rattle.trap_parts.specs.Parts.{TrapValue}
 use Rattle.step_rules.specs.declared.action.Action.{Action}
 use Rattle.step_rules.specs.Setting.{SettingValue}
 use Rattle.step_rules.specs.Steps.{Spot, footprint}

@@ -10,7 +10,7 @@ use Rattle.sat_base.specs.Derivation.{Line, Refutes}
 use Rattle.sat_base.specs.Certificate.{HaveForm}
 use Rattle.sat_base.specs.Fresh.{AreFresh}
 use Rattle.trap_model.specs.Trap.{place_count}
-use Rattle.trap_model.specs.Build.{IsTrap}
+use Rattle.trap_parts.specs.Build.{IsTrap}
 use Rattle.step_rules.specs.Setting.{SettingValue}
 use Rattle.step_vars.specs.declared.encoding.Encoding.{Encoding}
 use Rattle.step_vars.specs.declared.item.Claim.{Claim}

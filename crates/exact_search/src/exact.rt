@@ -4,7 +4,7 @@ ghost use Rattle.std.specs.Prelude.{◌≡◌, List, IfOk};
 ghost use Rattle.qc_base.specs.declared.ids.Qubit.{Qubit};
 ghost use Rattle.step_rules.specs.Placement.{IsPlacement};
 ghost use Rattle.circuit_core.specs.Circuit.{IsCircuit};
-ghost use Rattle.trap_model.specs.Build.{IsTrap};
+ghost use Rattle.trap_parts.specs.Build.{IsTrap};
 ghost use Rattle.step_rules.specs.Setting.{setting_of};
 ghost use Rattle.exact_search.specs.TooLarge.{too_large};
 ghost use Rattle.step_vars.specs.Encoding.{IsSmall};

@@ -6,7 +6,7 @@ ghost use Rattle.sat_base.specs.Certificate.{certificate_text, HaveForm};
 ghost use Rattle.sat_base.specs.Fresh.{AreFresh};
 ghost use Rattle.derivation_log.specs.Log.{Lines};
 ghost use Rattle.derivation_log.specs.Printing.{first_lines};
-ghost use Rattle.trap_model.specs.Build.{IsTrap};
+ghost use Rattle.trap_parts.specs.Build.{IsTrap};
 ghost use Rattle.step_rules.specs.Setting.{SettingValue};
 ghost use Rattle.step_vars.specs.declared.encoding.Encoding.{Encoding as AnEncoding};
 ghost use Rattle.step_vars.specs.declared.encoding.Encoding.TheVariants.{Counter};

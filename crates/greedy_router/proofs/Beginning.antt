@@ -6,7 +6,7 @@ use Rattle.std.proofs.lemmas.List.{length-append, length-replicate, get_or_past}
 use Rattle.qc_base.specs.declared.ids.Ion.{Ion}
 use Rattle.qc_base.specs.declared.ids.Qubit.{Qubit}
 use Rattle.qc_base.specs.declared.ids.PlaceId.{PlaceId}
-use Rattle.trap_model.specs.Trap.{TrapValue, slot_count}
+use Rattle.trap_parts.specs.Parts.{TrapValue, slot_count}
 use Rattle.ion_chain.specs.Transfer.{list_at}
 use Rattle.step_rules.specs.Setting.{SettingValue}
 use Rattle.step_rules.specs.Placement.{IsPlacement, start_of, reading_order, ions_from, places_from}

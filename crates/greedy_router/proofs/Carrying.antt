@@ -9,14 +9,14 @@ use Rattle.qc_base.specs.declared.ids.Ion.{Ion}
 use Rattle.qc_base.specs.declared.ids.End.{End}
 use Rattle.qc_base.specs.declared.ids.PlaceId.{PlaceId}
 use Rattle.qc_base.specs.declared.ids.JunctionId.{JunctionId}
-use Rattle.trap_model.specs.Trap.{TrapValue}
-use Rattle.trap_model.specs.Build.{IsTrap}
-use Rattle.trap_model.specs.Joins.{joined_slot}
+use Rattle.trap_parts.specs.Parts.{TrapValue}
+use Rattle.trap_parts.specs.Build.{IsTrap}
+use Rattle.trap_parts.specs.Joins.{joined_slot}
 use Rattle.trap_model.specs.Channels.{channels_of, split, split_channel}
 use Rattle.trap_model.specs.declared.channel.Channel.{Channel}
 use Rattle.trap_model.specs.declared.channel.Kind.{Kind}
 use Rattle.trap_model.specs.declared.channel.Kind.TheVariants as channel_kinds
-use Rattle.trap_model.specs.declared.port.SlotEnd.{SlotEnd}
+use Rattle.trap_parts.specs.declared.port.SlotEnd.{SlotEnd}
 use Rattle.trap_model.proofs.ReadTables.{no_joined}
 use Rattle.ion_chain.specs.Passing.{leaving, left, joined}
 use Rattle.ion_chain.specs.Transfer.{list_at, after_transfer}

@@ -11,7 +11,7 @@ use Rattle.qc_base.specs.declared.ids.Ion.{Ion}
 use Rattle.trap_model.specs.Trap.{is_able}
 use Rattle.circuit_core.specs.declared.op.Op.{Op}
 use Rattle.circuit_core.specs.Op.{qubits_of}
-use Rattle.trap_model.specs.declared.parts.Need.{Need}
+use Rattle.trap_parts.specs.declared.parts.Need.{Need}
 use Rattle.step_rules.specs.Setting.{need_of}
 use Rattle.step_rules.specs.Placement.{ion_of}
 use Rattle.step_rules.specs.Guards.{is_able_for, is_among, are_among}

@@ -8,7 +8,7 @@ use Rattle.std.proofs.lemmas.List.Edits.{length-swap}
 use Rattle.qc_base.specs.declared.ids.Ion.{Ion}
 use Rattle.qc_base.specs.declared.ids.End.{End}
 use Rattle.qc_base.specs.declared.ids.PlaceId.{PlaceId}
-use Rattle.trap_model.specs.Trap.{TrapValue}
+use Rattle.trap_parts.specs.Parts.{TrapValue}
 use Rattle.trap_model.specs.declared.channel.Channel.{Channel}
 use Rattle.ion_chain.specs.Passing.{leaving, left, joined}
 use Rattle.ion_chain.specs.Transfer.{list_at, after_transfer}

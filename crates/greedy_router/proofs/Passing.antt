@@ -11,20 +11,21 @@ use Rattle.qc_base.specs.declared.ids.End.{End}
 use Rattle.qc_base.specs.declared.ids.End.TheVariants.{A, B}
 use Rattle.qc_base.specs.declared.ids.PlaceId.{PlaceId}
 use Rattle.qc_base.specs.declared.ids.JunctionId.{JunctionId}
-use Rattle.trap_model.specs.Trap.{TrapValue, limit_of, load_of, slot_at, slot, place_count, is_zone}
-use Rattle.trap_model.specs.Joins.{same_end, links_of, docked, first_of, joined_slot, slot_end, first_slot, slots_of, arms_of, arm_at}
-use Rattle.trap_model.specs.Build.{IsTrap}
+use Rattle.trap_parts.specs.Parts.{TrapValue}
+use Rattle.trap_model.specs.Trap.{limit_of, load_of, slot_at, slot, place_count, is_zone}
+use Rattle.trap_parts.specs.Joins.{same_end, links_of, docked, first_of, joined_slot, slot_end, first_slot, slots_of, arms_of, arm_at}
+use Rattle.trap_parts.specs.Build.{IsTrap}
 use Rattle.trap_model.specs.Channels.{channel as channel_of, channels_of, channel_at, number_by, split, merge, cross, split_channel, merge_channel, move_channel, cross_channel, same_segment, arm_of}
 use Rattle.trap_model.specs.declared.channel.Channel.{Channel}
 use Rattle.trap_model.specs.declared.channel.Kind.{Kind}
 use Rattle.trap_model.specs.declared.channel.Kind.TheVariants as channel_kinds
-use Rattle.trap_model.specs.declared.port.Link.{Link}
-use Rattle.trap_model.specs.declared.port.Link.TheVariants as links
-use Rattle.trap_model.specs.declared.port.Slot.{Slot}
-use Rattle.trap_model.specs.declared.port.SlotEnd.{SlotEnd}
-use Rattle.trap_model.specs.declared.parts.SegmentPart.{SegmentPart}
-use Rattle.trap_model.specs.declared.parts.ZonePart.{ZonePart}
-use Rattle.trap_model.proofs.Known.{IsLink, AreLinks, links_known}
+use Rattle.trap_parts.specs.declared.port.Link.{Link}
+use Rattle.trap_parts.specs.declared.port.Link.TheVariants as links
+use Rattle.trap_model.specs.declared.slot.Slot.{Slot}
+use Rattle.trap_parts.specs.declared.port.SlotEnd.{SlotEnd}
+use Rattle.trap_parts.specs.declared.parts.SegmentPart.{SegmentPart}
+use Rattle.trap_parts.specs.declared.parts.ZonePart.{ZonePart}
+use Rattle.trap_parts.proofs.Known.{IsLink, AreLinks, links_known}
 use Rattle.trap_model.proofs.Rows.{row_of}
 use Rattle.trap_model.proofs.Slots.{slot_place}
 use Rattle.trap_model.proofs.Docks.{split_leads, merge_leads}

@@ -13,10 +13,11 @@ use Rattle.qc_base.specs.declared.ids.Qubit.{Qubit}
 use Rattle.circuit_core.specs.declared.op.Op.{Op}
 use Rattle.circuit_core.specs.Circuit.{CircuitValue}
 use Rattle.circuit_core.specs.Op.{is_barrier}
-use Rattle.trap_model.specs.declared.parts.Need.{Need}
-use Rattle.trap_model.specs.declared.parts.ZonePart.{ZonePart}
+use Rattle.trap_parts.specs.declared.parts.Need.{Need}
+use Rattle.trap_parts.specs.declared.parts.ZonePart.{ZonePart}
 use Rattle.trap_model.specs.Channels.{channels_of}
-use Rattle.trap_model.specs.Trap.{TrapValue, is_able, has}
+use Rattle.trap_parts.specs.Parts.{TrapValue}
+use Rattle.trap_model.specs.Trap.{is_able, has}
 use Rattle.ion_chain.specs.Transfer.{list_at}
 use Rattle.route_find.specs.Walks.{IsReachable, IsDistance}
 use Rattle.route_find.specs.Distances.{DistancesValue, AreDistances, distance_at, next_at}

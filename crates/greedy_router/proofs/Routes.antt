@@ -1,7 +1,7 @@
 -- Every zone leads to every other.
 use Rattle.std.proofs.Common.{◌≡◌, ◌≢◌, ℕ, zero, suc, ◌+◌, ◌<◌, List, [], ◌∷◌, length, Some, None, refl, ap, subst, ◌∙◌, arith}
 use Rattle.std.specs.Prelude.{Option, slice_get, IsSome}
-use Rattle.trap_model.specs.Trap.{TrapValue}
+use Rattle.trap_parts.specs.Parts.{TrapValue}
 use Rattle.route_find.specs.Walks.{IsWalk, IsReachable, IsDistance}
 use Rattle.route_find.specs.Distances.{DistancesValue, AreDistances, distance_at, next_at}
 use Rattle.route_find.proofs.Back.{reached_back, reached_through}

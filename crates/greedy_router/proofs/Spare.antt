@@ -2,7 +2,8 @@
 use Rattle.std.proofs.Common.{◌≡◌, ℕ, zero, suc, ◌+◌, ◌*◌, ◌<◌, ◌≤◌, List, [], ◌∷◌, length, refl, ap, inl, inr, arith}
 use Rattle.std.proofs.lemmas.Bool.{cases_eq, cases_lt}
 use Rattle.qc_base.specs.declared.ids.Ion.{Ion}
-use Rattle.trap_model.specs.Trap.{TrapValue, limit_of}
+use Rattle.trap_parts.specs.Parts.{TrapValue}
+use Rattle.trap_model.specs.Trap.{limit_of}
 use Rattle.ion_chain.specs.Transfer.{list_at}
 use Rattle.greedy_router.specs.Places.{one_if, IsMoved, IsCalm, HasFree, ions_before, limits_before}
 use Rattle.greedy_router.proofs.Counts.{one_same, one_apart}

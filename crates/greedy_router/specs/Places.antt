@@ -4,7 +4,8 @@ use Rattle.std.specs.Option.{option_map_or}
 use Rattle.qc_base.specs.declared.ids.Ion.{Ion}
 use Rattle.qc_base.specs.declared.ids.PlaceId.{PlaceId}
 use Rattle.qc_base.specs.Counting.{how_many}
-use Rattle.trap_model.specs.Trap.{TrapValue, limit_of}
+use Rattle.trap_parts.specs.Parts.{TrapValue}
+use Rattle.trap_model.specs.Trap.{limit_of}
 use Rattle.ion_chain.specs.Transfer.{list_at}
 
 -- how often the ion of that number is there

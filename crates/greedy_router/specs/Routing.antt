@@ -6,8 +6,8 @@ use Rattle.qc_base.specs.declared.ids.Qubit.{Qubit}
 use Rattle.circuit_core.specs.declared.op.Op.{Op}
 use Rattle.circuit_core.specs.Circuit.{IsCircuit}
 use Rattle.circuit_core.specs.Op.{qubits_of}
-use Rattle.trap_model.specs.Trap.{TrapValue}
-use Rattle.trap_model.specs.Build.{IsTrap}
+use Rattle.trap_parts.specs.Parts.{TrapValue}
+use Rattle.trap_parts.specs.Build.{IsTrap}
 use Rattle.route_find.specs.Distances.{DistancesValue, AreDistances}
 use Rattle.step_rules.specs.Setting.{SettingValue, need_of}
 use Rattle.step_rules.specs.Placement.{IsPlacement, ion_of}

@@ -5,7 +5,7 @@ use Rattle.qc_base.specs.declared.ids.OpId.{OpId}
 use Rattle.qc_base.specs.declared.ids.PlaceId.{PlaceId}
 use Rattle.qc_base.specs.declared.ids.End.{End}
 use Rattle.gate_order.specs.Ready.{ReadyValue, AreReady}
-use Rattle.trap_model.specs.Trap.{TrapValue}
+use Rattle.trap_parts.specs.Parts.{TrapValue}
 use Rattle.ion_chain.specs.Passing.{leaving}
 use Rattle.ion_chain.specs.Transfer.{list_at}
 use Rattle.step_rules.specs.declared.action.Action.{Action}

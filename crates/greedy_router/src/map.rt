@@ -1,7 +1,7 @@
 //! What never changes while a circuit is routed.
 
 ghost use Rattle.std.specs.Prelude.{◌≡◌, ◌≢◌, ◌<◌, length, true, IfOk, Some, slice_get};
-ghost use Rattle.trap_model.specs.Build.{IsTrap};
+ghost use Rattle.trap_parts.specs.Build.{IsTrap};
 ghost use Rattle.step_rules.specs.Placement.{IsPlacement};
 ghost use Rattle.circuit_core.specs.Order.{is_performed};
 ghost use Rattle.greedy_router.specs.Room.{HasRoom};

@@ -1,7 +1,7 @@
 //! The travel of one ion from zone to zone.
 
 ghost use Rattle.std.specs.Prelude.{◌≡◌, ◌<◌, ◌≤◌, true, IsSome, Some, length, slice_get, OnOk};
-ghost use Rattle.trap_model.specs.Build.{IsTrap};
+ghost use Rattle.trap_parts.specs.Build.{IsTrap};
 ghost use Rattle.trap_model.specs.Channels.{channels_of};
 ghost use Rattle.trap_model.specs.declared.channel.Channel.{Channel as AChannel};
 ghost use Rattle.ion_chain.specs.Transfer.{list_at};

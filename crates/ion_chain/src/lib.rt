@@ -3,8 +3,6 @@
 
 mod chain;
 mod laws;
-#[cfg(test)]
-mod tests;
 mod transfer;
 
 pub use chain::Chain;

@@ -6,10 +6,10 @@ use Rattle.circuit_core.specs.declared.circuit.Reg.{Reg}
 use Rattle.circuit_core.specs.declared.op.Op.{Op}
 use Rattle.circuit_core.specs.Op.{IsOp}
 use Rattle.circuit_core.specs.Circuit.{CircuitValue, IsCircuit, IsRegister, all_nodes}
-use Rattle.trap_model.specs.declared.fault.TrapFault.{TrapFault}
-use Rattle.trap_model.specs.Names.{is_name}
-use Rattle.trap_model.specs.Trap.{TrapValue, names_of}
-use Rattle.trap_model.specs.Build.{build_of, parts_pass, joins_from, join_of, AreNames}
+use Rattle.trap_parts.specs.declared.fault.TrapFault.{TrapFault}
+use Rattle.trap_parts.specs.Names.{is_name}
+use Rattle.trap_parts.specs.Parts.{TrapValue, names_of}
+use Rattle.trap_parts.specs.Build.{build_of, parts_pass, joins_from, join_of, AreNames}
 use Rattle.load_setup.specs.Setup.{gates_from, sixty_qubits, generated_trap, generated_circuit}
 use Rattle.load_setup.proofs.Gates.{length-gates, nodes-gates, are_gates}
 

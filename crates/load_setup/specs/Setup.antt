@@ -8,11 +8,11 @@ use Rattle.circuit_core.specs.declared.circuit.Reg.{Reg}
 use Rattle.circuit_core.specs.declared.op.Op.{Op}
 use Rattle.circuit_core.specs.declared.op.Op.TheVariants.{Cx}
 use Rattle.circuit_core.specs.Circuit.{CircuitValue}
-use Rattle.trap_model.specs.declared.parts.ZonePart.{ZonePart}
-use Rattle.trap_model.specs.declared.parts.SegmentPart.{SegmentPart}
-use Rattle.trap_model.specs.declared.parts.EndName.{EndName}
-use Rattle.trap_model.specs.declared.parts.JoinPart.{JoinPart}
-use Rattle.trap_model.specs.Trap.{TrapValue}
+use Rattle.trap_parts.specs.declared.parts.ZonePart.{ZonePart}
+use Rattle.trap_parts.specs.declared.parts.SegmentPart.{SegmentPart}
+use Rattle.trap_parts.specs.declared.parts.EndName.{EndName}
+use Rattle.trap_parts.specs.declared.parts.JoinPart.{JoinPart}
+use Rattle.trap_parts.specs.Parts.{TrapValue}
 use Rattle.placement.specs.Filling.{qubit_of}
 use Rattle.load_setup.specs.Words.{next_state, word_after}
 

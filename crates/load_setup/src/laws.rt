@@ -3,9 +3,9 @@
 ghost use Rattle.std.specs.Prelude.{◌≡◌, ℕ, ◌+◌, ◌<◌, ◌≤◌, true, List, length, slice_get, Some, None, Ok};
 ghost use Rattle.qc_base.specs.declared.ids.Qubit.{Qubit};
 ghost use Rattle.circuit_core.specs.Circuit.{IsCircuit, qubit_count};
-ghost use Rattle.trap_model.specs.declared.parts.Need.{Need};
+ghost use Rattle.trap_parts.specs.declared.parts.Need.{Need};
 ghost use Rattle.trap_model.specs.Trap.{limit_of, is_able};
-ghost use Rattle.trap_model.specs.Build.{build_of, IsTrap};
+ghost use Rattle.trap_parts.specs.Build.{build_of, IsTrap};
 ghost use Rattle.placement.specs.declared.rule.PlaceRule.TheVariants.{Declared};
 ghost use Rattle.placement.specs.Placing.{place_by};
 ghost use Rattle.load_setup.specs.Words.{word_after};

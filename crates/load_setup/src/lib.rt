@@ -4,8 +4,6 @@
 mod circuit;
 mod laws;
 mod setup;
-#[cfg(test)]
-mod tests;
 mod trap;
 mod words;
 

@@ -2,8 +2,8 @@
 
 ghost use Rattle.std.specs.Prelude.{◌≡◌, ◌+◌, ◌<◌, ◌≤◌, ◌++◌, ◌∷◌, [], map, Some, IfOk, OnOk};
 ghost use Rattle.std.specs.List.{flat_map, range_with_len};
-ghost use Rattle.trap_model.specs.Trap.{lists};
-ghost use Rattle.trap_model.specs.Build.{Fails, build_of};
+ghost use Rattle.trap_parts.specs.Parts.{lists};
+ghost use Rattle.trap_parts.specs.Build.{Fails, build_of};
 ghost use Rattle.load_setup.specs.Setup.{digit, zone_part, segment_part, end_of, joins_at, row_of, generated_trap};
 
 use qc_base::{End, Name, NoMemory};

@@ -4,7 +4,7 @@ use Rattle.std.specs.Prelude.{Option, Result, nat_le}
 use Rattle.std.proofs.lemmas.Bool.{leb-true, le-leb}
 use Rattle.qc_base.specs.declared.ids.Qubit.{Qubit}
 use Rattle.circuit_core.specs.Circuit.{CircuitValue, qubit_count, IsCircuit}
-use Rattle.trap_model.specs.Trap.{TrapValue}
+use Rattle.trap_parts.specs.Parts.{TrapValue}
 use Rattle.step_rules.specs.declared.placement.GivenFault.{GivenFault}
 use Rattle.step_rules.specs.Placement.{IsPlacement, placement_of, unless_fault}
 use Rattle.step_rules.proofs.Placements.{is_placement}

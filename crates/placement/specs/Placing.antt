@@ -2,7 +2,7 @@
 use Rattle.std.specs.Prelude.{◌≡◌, ℕ, nat_le, List, length, Option, None, Some, Result, Ok, Err, if◌then◌else◌}
 use Rattle.qc_base.specs.declared.ids.Qubit.{Qubit}
 use Rattle.circuit_core.specs.Circuit.{CircuitValue, qubit_count}
-use Rattle.trap_model.specs.Trap.{TrapValue}
+use Rattle.trap_parts.specs.Parts.{TrapValue}
 use Rattle.step_rules.specs.declared.placement.GivenFault.{GivenFault}
 use Rattle.step_rules.specs.Placement.{placement_of}
 use Rattle.placement.specs.declared.fault.PlaceFault.{PlaceFault}

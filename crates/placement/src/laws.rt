@@ -3,7 +3,7 @@
 ghost use Rattle.std.specs.Prelude.{◌≡◌, ◌<◌, List, Option, Ok};
 ghost use Rattle.qc_base.specs.declared.ids.Qubit.{Qubit};
 ghost use Rattle.circuit_core.specs.Circuit.{CircuitValue, IsCircuit};
-ghost use Rattle.trap_model.specs.Trap.{TrapValue};
+ghost use Rattle.trap_parts.specs.Parts.{TrapValue};
 ghost use Rattle.step_rules.specs.Placement.{IsPlacement, place_of};
 ghost use Rattle.placement.specs.declared.rule.PlaceRule.{PlaceRule};
 ghost use Rattle.placement.specs.FirstUse.{uses_of, by_first_use};

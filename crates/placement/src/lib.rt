@@ -8,8 +8,6 @@ mod laws;
 mod named;
 mod placing;
 mod rule;
-#[cfg(test)]
-mod tests;
 
 pub use fault::PlaceFault;
 pub use laws::{earlier_uses_come_first, rules_give_placements};

@@ -6,7 +6,7 @@ use Rattle.qc_base.specs.declared.ids.OpId.{OpId}
 use Rattle.qc_base.specs.declared.ids.PlaceId.{PlaceId}
 use Rattle.circuit_core.specs.declared.op.Op.{Op}
 use Rattle.circuit_core.specs.Circuit.{CircuitValue}
-use Rattle.trap_model.specs.Trap.{TrapValue}
+use Rattle.trap_parts.specs.Parts.{TrapValue}
 use Rattle.qc_base.specs.declared.ids.Qubit.{Qubit}
 use Rattle.qc_base.specs.Sink.{Took}
 use Rattle.step_rules.specs.declared.action.Action.TheVariants as actions

@@ -12,8 +12,9 @@ use Rattle.circuit_core.specs.declared.op.Op.{Op}
 use Rattle.circuit_core.specs.Circuit.{CircuitValue}
 use Rattle.circuit_core.specs.Op.{is_barrier}
 use Rattle.circuit_core.specs.Order.{is_performed}
-use Rattle.trap_model.specs.Trap.{TrapValue, place_count, is_zone}
-use Rattle.trap_model.specs.Build.{IsTrap}
+use Rattle.trap_parts.specs.Parts.{TrapValue}
+use Rattle.trap_model.specs.Trap.{place_count, is_zone}
+use Rattle.trap_parts.specs.Build.{IsTrap}
 use Rattle.trap_model.specs.Channels.{split_channel, move_channel, cross_channel, merge_channel}
 use Rattle.trap_model.specs.declared.channel.Channel.{Channel}
 use Rattle.step_rules.specs.declared.action.Action.{Action}

@@ -5,7 +5,7 @@ use Rattle.std.specs.Option.{ok_or}
 use Rattle.std.proofs.lemmas.Bool.{le-leb}
 use Rattle.qc_base.specs.declared.ids.Qubit.{Qubit}
 use Rattle.circuit_core.specs.Circuit.{CircuitValue, IsCircuit}
-use Rattle.trap_model.specs.Build.{IsTrap}
+use Rattle.trap_parts.specs.Build.{IsTrap}
 use Rattle.qasm_tokens.specs.declared.token.PlacedToken.{PlacedToken}
 use Rattle.qasm_tokens.specs.declared.token_fault.TokenFault.{TokenFault}
 use Rattle.qasm_tokens.specs.Tokens.{tokens_of}

@@ -3,7 +3,7 @@ use Rattle.std.proofs.Common.{◌≡◌, List, ℕ, Option, Some, None, Result, 
 use Rattle.std.specs.Option.{ok_or, option_map_or}
 use Rattle.qc_base.specs.declared.ids.Qubit.{Qubit}
 use Rattle.circuit_core.specs.Circuit.{CircuitValue}
-use Rattle.trap_model.specs.Trap.{TrapValue}
+use Rattle.trap_parts.specs.Parts.{TrapValue}
 use Rattle.step_rules.specs.Setting.{SettingValue, setting_of}
 use Rattle.greedy_router.specs.declared.has_room.RoomFault.{RoomFault}
 use Rattle.placement.specs.declared.fault.PlaceFault.{PlaceFault}

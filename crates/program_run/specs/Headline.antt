@@ -6,7 +6,8 @@ use Rattle.qc_base.specs.declared.ids.Qubit.{Qubit}
 use Rattle.qc_base.specs.Sink.{Took}
 use Rattle.circuit_core.specs.Circuit.{CircuitValue}
 use Rattle.circuit_core.specs.declared.op.Op.{Op}
-use Rattle.trap_model.specs.Trap.{TrapValue, place_text}
+use Rattle.trap_parts.specs.Parts.{TrapValue}
+use Rattle.trap_model.specs.Trap.{place_text}
 use Rattle.placement.specs.declared.rule.PlaceRule.{PlaceRule}
 use Rattle.placement.specs.Placing.{Table, place_by}
 use Rattle.step_rules.specs.declared.action.Action.{Action}

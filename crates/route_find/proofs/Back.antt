@@ -5,14 +5,14 @@ use Rattle.std.specs.List.{flat_map, range_with_len}
 use Rattle.std.proofs.lemmas.Bool.{cases_eq, ne_eqb, eq-eqb}
 use Rattle.std.proofs.lemmas.Option.{same_Some}
 use Rattle.qc_base.specs.declared.ids.End.TheVariants.{A, B}
-use Rattle.trap_model.specs.declared.parts.SegmentPart.{SegmentPart}
-use Rattle.trap_model.specs.declared.port.Link.{Link}
-use Rattle.trap_model.specs.declared.port.Link.TheVariants as links
-use Rattle.trap_model.specs.declared.port.SlotEnd.{SlotEnd}
+use Rattle.trap_parts.specs.declared.parts.SegmentPart.{SegmentPart}
+use Rattle.trap_parts.specs.declared.port.Link.{Link}
+use Rattle.trap_parts.specs.declared.port.Link.TheVariants as links
+use Rattle.trap_parts.specs.declared.port.SlotEnd.{SlotEnd}
 use Rattle.trap_model.specs.declared.channel.Channel.{Channel}
 use Rattle.trap_model.specs.declared.channel.Kind.TheVariants.{Move}
-use Rattle.trap_model.specs.Trap.{TrapValue}
-use Rattle.trap_model.specs.Joins.{links_of, slot_end, arms_of}
+use Rattle.trap_parts.specs.Parts.{TrapValue}
+use Rattle.trap_parts.specs.Joins.{links_of, slot_end, arms_of}
 use Rattle.trap_model.specs.Channels.{channel, split, merge, cross, channels_of, dock_channels, move_channels, moves_from, cross_channels, crossings_of}
 use Rattle.route_find.specs.Walks.{Leads, IsWalk, IsReachable}
 

@@ -5,7 +5,8 @@ use Rattle.std.specs.Prelude.{Option, slice_get, IsSome, unwrap_or, ◌⊎◌}
 use Rattle.std.proofs.lemmas.Option.{same_Some, slice_get-get_or, slice_get_within, get_or_from_slice_get}
 use Rattle.std.proofs.lemmas.List.Elements.{All-contains}
 use Rattle.std.proofs.lemmas.Bool.{false≢true}
-use Rattle.trap_model.specs.Trap.{TrapValue, place_count}
+use Rattle.trap_parts.specs.Parts.{TrapValue}
+use Rattle.trap_model.specs.Trap.{place_count}
 use Rattle.trap_model.specs.Channels.{channels_of, AreWithin}
 use Rattle.trap_model.specs.declared.channel.Channel.{Channel}
 use Rattle.route_find.specs.Walks.{IsWalk, IsShortest, IsDistance}

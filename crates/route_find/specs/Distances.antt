@@ -1,7 +1,7 @@
 -- The distances of all places to one of them.
 use Rattle.std.specs.Prelude.{◌≡◌, ℕ, ◌+◌, List, slice_get, Option, Some, IsSome}
 use Rattle.std.specs.Option.{option_map, option_and_then}
-use Rattle.trap_model.specs.Trap.{TrapValue}
+use Rattle.trap_parts.specs.Parts.{TrapValue}
 use Rattle.route_find.specs.declared.reach.Reach.{Reach}
 use Rattle.route_find.specs.Walks.{Leads, IsDistance}
 

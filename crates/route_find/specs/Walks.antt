@@ -1,6 +1,6 @@
 -- Walks of channels from place to place, and the shortest of them.
 use Rattle.std.specs.Prelude.{◌≡◌, ℕ, ◌≤◌, List, [], ◌∷◌, length, slice_get, Option, Some, None}
-use Rattle.trap_model.specs.Trap.{TrapValue}
+use Rattle.trap_parts.specs.Parts.{TrapValue}
 use Rattle.trap_model.specs.Channels.{channels_of}
 use Rattle.trap_model.specs.declared.channel.Channel.{Channel}
 

@@ -1,7 +1,7 @@
 //! What holds of the walks of all traps.
 
 ghost use Rattle.std.specs.Prelude.{ℕ};
-ghost use Rattle.trap_model.specs.Trap.{TrapValue};
+ghost use Rattle.trap_parts.specs.Parts.{TrapValue};
 ghost use Rattle.route_find.specs.Walks.{IsReachable};
 
 /// Each channel has one that leads back, so walks lead back, and walks can be joined.

@@ -7,8 +7,6 @@ mod numbers;
 mod reach;
 mod routes;
 mod search;
-#[cfg(test)]
-mod tests;
 
 pub use distances::Distances;
 pub use laws::walks_lead_back;

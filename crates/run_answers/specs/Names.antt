@@ -5,7 +5,7 @@ use Rattle.qc_base.specs.declared.ids.Qubit.{Qubit}
 use Rattle.qc_base.specs.declared.ids.PlaceId.{PlaceId}
 use Rattle.circuit_core.specs.declared.circuit.Reg.{Reg}
 use Rattle.circuit_core.specs.Circuit.{CircuitValue}
-use Rattle.trap_model.specs.Trap.{TrapValue}
+use Rattle.trap_parts.specs.Parts.{TrapValue}
 use Rattle.run_answers.specs.declared.names.Names.{Names as Lent}
 use Rattle.run_answers.specs.Line.{name_text}
 

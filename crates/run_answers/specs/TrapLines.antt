@@ -1,9 +1,9 @@
 -- What is said of the faults of a trap's file, in pieces.
 use Rattle.std.specs.Prelude.{ℕ, List, [], ◌∷◌, ◌++◌, codes, decimal}
-use Rattle.trap_model.specs.declared.fault.Counted.{Counted}
-use Rattle.trap_model.specs.declared.fault.Counted.TheVariants as counts
-use Rattle.trap_model.specs.declared.fault.TrapFault.{TrapFault}
-use Rattle.trap_model.specs.declared.fault.TrapFault.TheVariants as traps
+use Rattle.trap_parts.specs.declared.fault.Counted.{Counted}
+use Rattle.trap_parts.specs.declared.fault.Counted.TheVariants as counts
+use Rattle.trap_parts.specs.declared.fault.TrapFault.{TrapFault}
+use Rattle.trap_parts.specs.declared.fault.TrapFault.TheVariants as traps
 use Rattle.trap_read.specs.declared.fault.Section.{Section}
 use Rattle.trap_read.specs.declared.fault.Section.TheVariants as sections
 use Rattle.trap_read.specs.declared.fault.KeyAt.{KeyAt}

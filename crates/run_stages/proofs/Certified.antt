@@ -6,8 +6,8 @@ use Rattle.qc_base.specs.Causes.{Rose}
 use Rattle.qc_base.specs.Shelf.{ShelfFacts, SameCounts, OnlyReads}
 use Rattle.schedule_report.specs.Lines.{least_line}
 use Rattle.circuit_core.specs.Circuit.{CircuitValue, IsCircuit}
-use Rattle.trap_model.specs.Trap.{TrapValue}
-use Rattle.trap_model.specs.Build.{IsTrap}
+use Rattle.trap_parts.specs.Parts.{TrapValue}
+use Rattle.trap_parts.specs.Build.{IsTrap}
 use Rattle.derivation_check.specs.declared.cert_fault.CertFault.{CertFault}
 use Rattle.verify_core.specs.declared.judge.Checked.{Checked}
 use Rattle.verify_core.specs.declared.fault.CheckFault.{CheckFault}

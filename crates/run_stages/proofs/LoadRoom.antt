@@ -9,10 +9,11 @@ use Rattle.std.specs.Prelude.{not, slice_get}
 use Rattle.std.specs.Option.{option_map_or, option_and_then}
 use Rattle.trap_model.specs.declared.channel.Channel.{Channel}
 use Rattle.trap_model.specs.declared.channel.Kind.TheVariants.{Split, Merge}
-use Rattle.trap_model.specs.declared.parts.Need.{Need}
-use Rattle.trap_model.specs.declared.parts.Need.TheVariants.{One, Two, Read}
+use Rattle.trap_parts.specs.declared.parts.Need.{Need}
+use Rattle.trap_parts.specs.declared.parts.Need.TheVariants.{One, Two, Read}
 use Rattle.trap_model.specs.Channels.{channel, channels_of}
-use Rattle.trap_model.specs.Trap.{TrapValue, is_able}
+use Rattle.trap_parts.specs.Parts.{TrapValue}
+use Rattle.trap_model.specs.Trap.{is_able}
 use Rattle.circuit_core.specs.Circuit.{CircuitValue}
 use Rattle.step_rules.specs.declared.action.Action.{Action}
 use Rattle.step_rules.specs.Setting.{SettingValue, setting_of, need_of, need_by}

@@ -5,7 +5,7 @@ use Rattle.std.proofs.lemmas.Bool.{cases_Bool, leb-true, le-leb}
 use Rattle.qc_base.specs.Causes.{Rose}
 use Rattle.qc_base.specs.Shelf.{ShelfFacts, SameCounts, OnlyReads}
 use Rattle.circuit_core.specs.Circuit.{CircuitValue}
-use Rattle.trap_model.specs.Trap.{TrapValue}
+use Rattle.trap_parts.specs.Parts.{TrapValue}
 use Rattle.placement.specs.Placing.{Table}
 use Rattle.request_words.specs.declared.file.File.{File}
 use Rattle.run_answers.specs.declared.answer.Answer.{Answer}

@@ -6,7 +6,7 @@ use Rattle.circuit_core.specs.Circuit.{CircuitValue}
 use Rattle.qasm_read.specs.declared.statement.Placed.{Placed}
 use Rattle.qasm_read.specs.Read.{IsReading}
 use Rattle.gate_expand.specs.Program.{expanded}
-use Rattle.trap_model.specs.Trap.{TrapValue}
+use Rattle.trap_parts.specs.Parts.{TrapValue}
 use Rattle.trap_read.specs.TrapFile.{trap_of}
 use Rattle.placement.specs.declared.rule.PlaceRule.{PlaceRule}
 use Rattle.greedy_router.specs.declared.has_room.RoomFault.{RoomFault}

@@ -5,12 +5,10 @@ mod circuits;
 mod lists;
 mod ops;
 mod parts;
-#[cfg(test)]
-mod tests;
 mod traps;
 
 pub use circuits::circuit_of;
 pub use lists::lists_of;
 pub use ops::{barrier, cx, measure, reset, turn};
 pub use parts::{ALL, join, segment, zone, zones_of};
-pub use traps::{trap_of, zones_apart, zones_at_a_junction, zones_at_a_slot};
+pub use traps::{are_named, trap_of, zones_apart, zones_at_a_junction, zones_at_a_slot};

@@ -1,9 +1,9 @@
 //! Traps.
 
 ghost use Rattle.std.specs.Prelude.{IsTrue, All};
-ghost use Rattle.trap_model.specs.Names.{is_name as is_name_of};
-ghost use Rattle.trap_model.specs.Trap.{lists, names_of};
-ghost use Rattle.trap_model.specs.Build.{AreNames};
+ghost use Rattle.trap_parts.specs.Names.{is_name as is_name_of};
+ghost use Rattle.trap_parts.specs.Parts.{lists, names_of};
+ghost use Rattle.trap_parts.specs.Build.{AreNames};
 
 use crate::parts::{join, zones_of};
 use qc_base::{End, Name};
@@ -44,7 +44,8 @@ fn junctions_named(junctions: &[Name]) -> bool
     true
 }
 
-fn are_named(parts: &TrapParts) -> bool
+/// Whether the name of each zone, segment and junction has the form of a name.
+pub fn are_named(parts: &TrapParts) -> bool
     ensures { IsTrue result → AreNames (names_of (lists parts.now)) }
 {
     if !zones_named(parts.zones.as_slice()) {

@@ -12,7 +12,7 @@ use Rattle.circuit_core.specs.Circuit.{CircuitValue}
 use Rattle.circuit_core.specs.Order.{Forced, is_performed}
 use Rattle.circuit_core.specs.Deciding.{is_forced}
 use Rattle.circuit_core.proofs.Forcing.{forced_iff}
-use Rattle.trap_model.specs.Trap.{TrapValue}
+use Rattle.trap_parts.specs.Parts.{TrapValue}
 use Rattle.step_rules.specs.declared.action.Action.{Action}
 use Rattle.step_rules.specs.declared.action.Action.TheVariants as actions
 use Rattle.step_rules.specs.declared.action.Rule.{Rule}

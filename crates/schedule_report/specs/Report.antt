@@ -1,8 +1,8 @@
 -- The text of a report: counts of a schedule, of each zone of its trap, and of each step.
 use Rattle.std.specs.Prelude.{ℕ, ◌+◌, max, List, [], ◌∷◌, ◌++◌, length, codes, decimal}
 use Rattle.qc_base.specs.Counting.{how_many}
-use Rattle.trap_model.specs.Trap.{TrapValue}
-use Rattle.trap_model.specs.declared.parts.ZonePart.{ZonePart}
+use Rattle.trap_parts.specs.Parts.{TrapValue}
+use Rattle.trap_parts.specs.declared.parts.ZonePart.{ZonePart}
 use Rattle.step_rules.specs.declared.action.Action.{Action}
 use Rattle.step_rules.specs.Play.{actions_of}
 use Rattle.schedule_report.specs.declared.tally.Tally.{Tally}

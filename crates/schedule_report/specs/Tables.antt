@@ -1,7 +1,7 @@
 -- ---- working notions of private functions: counts that are kept while actions are gone through
 use Rattle.std.specs.Prelude.{ℕ, ◌+◌, Bool, true, false, List, [], ◌∷◌, ◌++◌, length, map, fold, slice_set, slice_index_or, Option, Some, None}
 use Rattle.std.specs.List.{range_with_len}
-use Rattle.trap_model.specs.declared.parts.ZonePart.{ZonePart}
+use Rattle.trap_parts.specs.declared.parts.ZonePart.{ZonePart}
 use Rattle.step_rules.specs.declared.action.Action.{Action}
 use Rattle.schedule_report.specs.declared.tally.Tally.{Tally}
 use Rattle.schedule_report.specs.Counts.{capped, is_split, is_move, is_cross, is_merge, is_swap, is_operation, tally_of, zone_of, at_zone}

@@ -9,8 +9,9 @@ use Rattle.qc_base.specs.declared.ids.PlaceId.{PlaceId}
 use Rattle.qc_base.proofs.Words.{free_decimal, same_rest}
 use Rattle.circuit_core.specs.Circuit.{IsCircuit}
 use Rattle.circuit_core.specs.OpText.{op_text}
-use Rattle.trap_model.specs.Trap.{TrapValue, place_count, place_text}
-use Rattle.trap_model.specs.Build.{IsTrap}
+use Rattle.trap_parts.specs.Parts.{TrapValue}
+use Rattle.trap_model.specs.Trap.{place_count, place_text}
+use Rattle.trap_parts.specs.Build.{IsTrap}
 use Rattle.step_rules.specs.declared.action.Action.TheVariants as actions
 use Rattle.step_rules.specs.Setting.{SettingValue}
 use Rattle.schedule_text.specs.Text.{at, ion_words, op_line, end_text, split_line, move_line, cross_line, merge_line, swap_line, performed_line}

@@ -5,7 +5,7 @@ use Rattle.std.proofs.lemmas.Bool.{cond-true, cond-false, eq-eqb, ne_eqb, cases_
 use Rattle.qc_base.specs.Spelling.{IsFree}
 use Rattle.qc_base.proofs.Words.{word_before}
 use Rattle.circuit_core.specs.Circuit.{CircuitValue}
-use Rattle.trap_model.specs.Trap.{TrapValue}
+use Rattle.trap_parts.specs.Parts.{TrapValue}
 use Rattle.schedule_text.specs.Reading.{IsText, BeginsText, IsBadLine, Refuses, first_lines, whole_lines}
 use Rattle.schedule_text.specs.declared.text_fault.TextFault.{TextFault}
 use Rattle.schedule_text.specs.declared.text_fault.TextFault.TheVariants.{Line}

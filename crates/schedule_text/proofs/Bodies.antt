@@ -8,8 +8,8 @@ use Rattle.std.proofs.lemmas.List.Elements.{All-nil, All-cons, All-append, All-h
 use Rattle.qc_base.specs.declared.ids.Qubit.{Qubit}
 use Rattle.qc_base.proofs.Words.{same_rest}
 use Rattle.circuit_core.specs.Circuit.{CircuitValue, IsCircuit}
-use Rattle.trap_model.specs.Trap.{TrapValue}
-use Rattle.trap_model.specs.Build.{IsTrap}
+use Rattle.trap_parts.specs.Parts.{TrapValue}
+use Rattle.trap_parts.specs.Build.{IsTrap}
 use Rattle.step_rules.specs.declared.action.Action.{Action}
 use Rattle.step_rules.specs.Placement.{IsPlacement}
 use Rattle.step_rules.specs.Schedule.{AddsToLast}

@@ -11,9 +11,9 @@ use Rattle.qc_base.proofs.Words.{free_decimal, same_rest}
 use Rattle.circuit_core.specs.Circuit.{CircuitValue, IsCircuit, qubit_count}
 use Rattle.circuit_core.specs.Label.{label}
 use Rattle.circuit_core.proofs.CircuitLabels.{label_free, label_one, one_qubit}
-use Rattle.trap_model.specs.declared.parts.ZonePart.{ZonePart}
-use Rattle.trap_model.specs.Trap.{TrapValue}
-use Rattle.trap_model.specs.Build.{IsTrap}
+use Rattle.trap_parts.specs.declared.parts.ZonePart.{ZonePart}
+use Rattle.trap_parts.specs.Parts.{TrapValue}
+use Rattle.trap_parts.specs.Build.{IsTrap}
 use Rattle.step_rules.specs.declared.action.Action.{Action}
 use Rattle.step_rules.specs.declared.action.Action.TheVariants as actions
 use Rattle.step_rules.specs.Placement.{IsPlacement, reading_order}

@@ -8,9 +8,10 @@ use Rattle.std.proofs.lemmas.List.Elements.{All-append}
 use Rattle.qc_base.specs.declared.ids.Qubit.{Qubit}
 use Rattle.qc_base.proofs.Words.{same_rest}
 use Rattle.circuit_core.specs.Circuit.{CircuitValue, IsCircuit, qubit_count}
-use Rattle.trap_model.specs.declared.parts.ZonePart.{ZonePart}
-use Rattle.trap_model.specs.Trap.{TrapValue, limit_of}
-use Rattle.trap_model.specs.Build.{IsTrap}
+use Rattle.trap_parts.specs.declared.parts.ZonePart.{ZonePart}
+use Rattle.trap_parts.specs.Parts.{TrapValue}
+use Rattle.trap_model.specs.Trap.{limit_of}
+use Rattle.trap_parts.specs.Build.{IsTrap}
 use Rattle.trap_model.proofs.Slots.{slice_get_right}
 use Rattle.step_rules.specs.declared.action.Action.{Action}
 use Rattle.step_rules.specs.Placement.{IsPlacement, reading_order}

@@ -10,8 +10,9 @@ use Rattle.qc_base.specs.Spelling.{IsSign, IsFree}
 use Rattle.circuit_core.specs.declared.op.Op.{Op}
 use Rattle.circuit_core.specs.Circuit.{CircuitValue, IsCircuit}
 use Rattle.circuit_core.specs.Label.{is_label_byte}
-use Rattle.trap_model.specs.Trap.{TrapValue, place_count, place_text}
-use Rattle.trap_model.specs.Build.{IsTrap}
+use Rattle.trap_parts.specs.Parts.{TrapValue}
+use Rattle.trap_model.specs.Trap.{place_count, place_text}
+use Rattle.trap_parts.specs.Build.{IsTrap}
 use Rattle.trap_model.proofs.PlaceTexts.{texts_differ}
 use Rattle.step_rules.specs.Setting.{SettingValue}
 use Rattle.schedule_text.specs.Text.{at, op_line, end_text}

@@ -10,12 +10,13 @@ use Rattle.std.proofs.lemmas.Option.{none-some, same_Some, slice_get_cases, get_
 use Rattle.std.proofs.lemmas.Slice.Eq.{bytes_eq-Decides}
 use Rattle.qc_base.specs.Spelling.{IsFree}
 use Rattle.qc_base.proofs.Words.{free_decimal}
-use Rattle.trap_model.specs.declared.parts.SegmentPart.{SegmentPart}
-use Rattle.trap_model.specs.declared.parts.ZonePart.{ZonePart}
-use Rattle.trap_model.specs.Names.{is_name, is_word, begins_with_letter}
-use Rattle.trap_model.specs.Trap.{TrapValue, names_of, place_count, place_text, place_named, junction_named}
-use Rattle.trap_model.specs.Build.{IsTrap}
-use Rattle.trap_model.specs.Joins.{slots_of}
+use Rattle.trap_parts.specs.declared.parts.SegmentPart.{SegmentPart}
+use Rattle.trap_parts.specs.declared.parts.ZonePart.{ZonePart}
+use Rattle.trap_parts.specs.Names.{is_name, is_word, begins_with_letter}
+use Rattle.trap_parts.specs.Parts.{TrapValue, names_of, junction_named}
+use Rattle.trap_model.specs.Trap.{place_count, place_text, place_named}
+use Rattle.trap_parts.specs.Build.{IsTrap}
+use Rattle.trap_parts.specs.Joins.{slots_of}
 use Rattle.trap_model.proofs.Rows.{row_of}
 use Rattle.trap_model.proofs.PlaceTexts.{unique, zone_name, segment_name, zone_written_so, slot_written_so}
 use Rattle.schedule_text.specs.Text.{at}

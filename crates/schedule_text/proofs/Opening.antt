@@ -6,9 +6,9 @@ use Rattle.std.proofs.lemmas.List.{drop_more, take_more, take-append-drop, lengt
 use Rattle.std.proofs.lemmas.List.Elements.{All-drop, All-head, All-tail}
 use Rattle.qc_base.specs.declared.ids.Qubit.{Qubit}
 use Rattle.circuit_core.specs.Circuit.{CircuitValue, qubit_count}
-use Rattle.trap_model.specs.declared.parts.ZonePart.{ZonePart}
-use Rattle.trap_model.specs.Trap.{TrapValue}
-use Rattle.trap_model.specs.Build.{IsTrap}
+use Rattle.trap_parts.specs.declared.parts.ZonePart.{ZonePart}
+use Rattle.trap_parts.specs.Parts.{TrapValue}
+use Rattle.trap_parts.specs.Build.{IsTrap}
 use Rattle.circuit_core.specs.Deciding.{is_listed}
 use Rattle.step_rules.specs.Placement.{reading_order, times}
 use Rattle.step_rules.proofs.Reading.{times-append, times_none, times_some, flags_grown}

@@ -5,7 +5,7 @@ use Rattle.std.specs.Option.{option_map_or}
 use Rattle.std.proofs.lemmas.List.{length-take, take-append-drop, length-drop}
 use Rattle.std.proofs.lemmas.Option.{same_Some}
 use Rattle.qc_base.specs.declared.ids.Qubit.{Qubit}
-use Rattle.trap_model.specs.declared.parts.ZonePart.{ZonePart}
+use Rattle.trap_parts.specs.declared.parts.ZonePart.{ZonePart}
 use Rattle.step_rules.specs.Placement.{reading_order}
 use Rattle.schedule_text.specs.Progress.{capacity}
 use Rattle.schedule_text.specs.ZoneLists.{AreIn}

@@ -14,10 +14,11 @@ use Rattle.circuit_core.specs.Circuit.{CircuitValue, IsCircuit, IsOpOf, nodes_in
 use Rattle.circuit_core.specs.Label.{label}
 use Rattle.circuit_core.specs.Op.{angles_of, is_barrier}
 use Rattle.circuit_core.specs.Order.{is_performed}
-use Rattle.trap_model.specs.declared.parts.ZonePart.{ZonePart}
-use Rattle.trap_model.specs.Names.{is_name}
-use Rattle.trap_model.specs.Trap.{TrapValue, place_count, place_text}
-use Rattle.trap_model.specs.Build.{IsTrap}
+use Rattle.trap_parts.specs.declared.parts.ZonePart.{ZonePart}
+use Rattle.trap_parts.specs.Names.{is_name}
+use Rattle.trap_parts.specs.Parts.{TrapValue}
+use Rattle.trap_model.specs.Trap.{place_count, place_text}
+use Rattle.trap_parts.specs.Build.{IsTrap}
 use Rattle.step_rules.specs.declared.action.Action.{Action}
 use Rattle.step_rules.specs.declared.action.Action.TheVariants as actions
 use Rattle.step_rules.specs.Guards.{Passes}

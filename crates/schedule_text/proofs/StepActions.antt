@@ -5,7 +5,8 @@ use Rattle.std.proofs.lemmas.Bool.{cases_Bool, and_parts, ltb-true, eqb-true, eq
 use Rattle.std.proofs.lemmas.List.Elements.{All-head, All-tail, All-weaker}
 use Rattle.qc_base.specs.Counting.{how_many}
 use Rattle.qc_base.specs.declared.ids.Ion.{Ion}
-use Rattle.trap_model.specs.Trap.{TrapValue, place_count, is_zone}
+use Rattle.trap_parts.specs.Parts.{TrapValue}
+use Rattle.trap_model.specs.Trap.{place_count, is_zone}
 use Rattle.step_rules.specs.declared.action.Action.{Action}
 use Rattle.step_rules.specs.declared.action.Action.TheVariants as actions
 use Rattle.step_rules.specs.declared.action.Rule.{Rule}

@@ -26,12 +26,13 @@ use Rattle.circuit_core.specs.Op.{IsAngle, IsGate, qubits_of, angles_of, cond_of
 use Rattle.circuit_core.specs.OpText.{with_commas, qubits_text, params_text, cond_text, verb_text, target_text, op_text}
 use Rattle.circuit_core.specs.Reals.{IsShortReal}
 use Rattle.circuit_core.proofs.CircuitLabels.{all_parts, qregs_are, cregs_are}
-use Rattle.trap_model.specs.declared.parts.SegmentPart.{SegmentPart}
-use Rattle.trap_model.specs.declared.parts.ZonePart.{ZonePart}
-use Rattle.trap_model.specs.declared.port.Slot.{Slot}
-use Rattle.trap_model.specs.Names.{is_name, is_word, begins_with_letter}
-use Rattle.trap_model.specs.Trap.{TrapValue, place_text, slot_text, slot_at}
-use Rattle.trap_model.specs.Build.{IsTrap}
+use Rattle.trap_parts.specs.declared.parts.SegmentPart.{SegmentPart}
+use Rattle.trap_parts.specs.declared.parts.ZonePart.{ZonePart}
+use Rattle.trap_model.specs.declared.slot.Slot.{Slot}
+use Rattle.trap_parts.specs.Names.{is_name, is_word, begins_with_letter}
+use Rattle.trap_parts.specs.Parts.{TrapValue}
+use Rattle.trap_model.specs.Trap.{place_text, slot_text, slot_at}
+use Rattle.trap_parts.specs.Build.{IsTrap}
 use Rattle.step_rules.specs.Placement.{ion_of}
 use Rattle.schedule_text.specs.Text.{at, ions_text, ion_words, op_line}
 

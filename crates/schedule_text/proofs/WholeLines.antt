@@ -12,8 +12,9 @@ use Rattle.circuit_core.specs.Circuit.{CircuitValue, IsCircuit, IsOpOf}
 use Rattle.circuit_core.specs.Op.{qubits_of}
 use Rattle.circuit_core.specs.OpText.{op_text}
 use Rattle.circuit_core.proofs.Lines.{op_line as op_is_line}
-use Rattle.trap_model.specs.Trap.{TrapValue, place_count, place_text}
-use Rattle.trap_model.specs.Build.{IsTrap}
+use Rattle.trap_parts.specs.Parts.{TrapValue}
+use Rattle.trap_model.specs.Trap.{place_count, place_text}
+use Rattle.trap_parts.specs.Build.{IsTrap}
 use Rattle.step_rules.specs.declared.action.Action.{Action}
 use Rattle.step_rules.specs.declared.action.Action.TheVariants as actions
 use Rattle.step_rules.specs.Placement.{IsPlacement, reading_order, place_of, ion_of}

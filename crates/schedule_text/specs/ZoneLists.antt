@@ -1,7 +1,7 @@
 -- Lists of qubits in zones: none occurs twice, and each zone has room for its list.
 use Rattle.std.specs.Prelude.{ℕ, ◌≤◌, Bool, List, [], ◌∷◌, length}
 use Rattle.qc_base.specs.declared.ids.Qubit.{Qubit}
-use Rattle.trap_model.specs.declared.parts.ZonePart.{ZonePart}
+use Rattle.trap_parts.specs.declared.parts.ZonePart.{ZonePart}
 use Rattle.step_rules.specs.Placement.{times}
 use Rattle.step_rules.specs.Flags.{AreFlags}
 

@@ -4,7 +4,7 @@ ghost use Rattle.std.specs.Prelude.{◌≡◌, ℕ, ◌<◌, ◌^◌, ◌++◌, 
 ghost use Rattle.qc_base.specs.declared.ids.End.{End as AnEnd};
 ghost use Rattle.circuit_core.specs.Circuit.{IsCircuit};
 ghost use Rattle.trap_model.specs.Trap.{place_count, place_text};
-ghost use Rattle.trap_model.specs.Build.{IsTrap};
+ghost use Rattle.trap_parts.specs.Build.{IsTrap};
 ghost use Rattle.step_rules.specs.declared.action.Action.{Action as AnAction};
 ghost use Rattle.schedule_text.specs.Text.{zone_end, two_places, split_line, move_line, cross_line, merge_line, swap_line, performed_line, action_line};
 ghost use Rattle.schedule_text.specs.Reading.{IsKnown};

@@ -2,7 +2,7 @@
 
 ghost use Rattle.std.specs.Prelude.{◌≡◌, ℕ, ◌+◌, ◌<◌, ◌++◌, List, IfOk, IfSome, IsSomeAnd, codes, decimal, length};
 ghost use Rattle.circuit_core.specs.Circuit.{IsCircuit};
-ghost use Rattle.trap_model.specs.Build.{IsTrap};
+ghost use Rattle.trap_parts.specs.Build.{IsTrap};
 ghost use Rattle.step_rules.specs.declared.action.Action.{Action as AnAction};
 ghost use Rattle.schedule_text.specs.declared.body_line.BodyLine.{BodyLine as ABodyLine};
 ghost use Rattle.schedule_text.specs.Progress.{line_text, MayFollow};

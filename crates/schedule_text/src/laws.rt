@@ -3,8 +3,9 @@
 ghost use Rattle.std.specs.Prelude.{◌≡◌, ℕ, ◌≤◌, ◌^◌, List, length};
 ghost use Rattle.qc_base.specs.declared.ids.Qubit.{Qubit};
 ghost use Rattle.circuit_core.specs.Circuit.{CircuitValue, IsCircuit};
-ghost use Rattle.trap_model.specs.Trap.{TrapValue, place_count};
-ghost use Rattle.trap_model.specs.Build.{IsTrap};
+ghost use Rattle.trap_parts.specs.Parts.{TrapValue};
+ghost use Rattle.trap_model.specs.Trap.{place_count};
+ghost use Rattle.trap_parts.specs.Build.{IsTrap};
 ghost use Rattle.step_rules.specs.declared.action.Action.{Action};
 ghost use Rattle.step_rules.specs.Placement.{IsPlacement};
 ghost use Rattle.step_rules.specs.Play.{Plays};

@@ -3,7 +3,7 @@
 ghost use Rattle.std.specs.Prelude.{◌≡◌, ◌<◌, ◌≤◌, ◌^◌, ◌↔◌, ◌++◌, List, length, All, IfOk, IsTrue, MatchBool};
 ghost use Rattle.qc_base.specs.declared.ids.Qubit.{Qubit as AQubit};
 ghost use Rattle.circuit_core.specs.Circuit.{qubit_count};
-ghost use Rattle.trap_model.specs.Build.{IsTrap};
+ghost use Rattle.trap_parts.specs.Build.{IsTrap};
 ghost use Rattle.step_rules.specs.Placement.{reading_order};
 ghost use Rattle.schedule_text.specs.Progress.{capacity, Opens};
 ghost use Rattle.schedule_text.specs.ZoneLists.{AreOnce, AreMarked, AreIn};

@@ -3,7 +3,7 @@
 ghost use Rattle.std.specs.Prelude.{◌≡◌, ℕ, ◌+◌, ◌*◌, ◌<◌, ◌≤◌, ◌++◌, List, length, slice_get, Some, IfSome, IfOk, IfErr, MatchOption, codes};
 ghost use Rattle.qc_base.specs.declared.ids.Qubit.{Qubit as AQubit};
 ghost use Rattle.circuit_core.specs.Circuit.{IsCircuit, qubit_count};
-ghost use Rattle.trap_model.specs.Build.{IsTrap};
+ghost use Rattle.trap_parts.specs.Build.{IsTrap};
 ghost use Rattle.step_rules.specs.declared.action.Action.{Action as AnAction};
 ghost use Rattle.step_rules.specs.Placement.{IsPlacement};
 ghost use Rattle.schedule_text.specs.Reading.{Spells, Refuses, whole_lines};

@@ -7,7 +7,7 @@ ghost use Rattle.qc_base.specs.Spelling.{IsFree};
 ghost use Rattle.circuit_core.specs.Circuit.{IsCircuit, qubit_count};
 ghost use Rattle.circuit_core.specs.Label.{label};
 ghost use Rattle.trap_model.specs.Trap.{place_count, place_text};
-ghost use Rattle.trap_model.specs.Build.{IsTrap};
+ghost use Rattle.trap_parts.specs.Build.{IsTrap};
 ghost use Rattle.schedule_text.specs.Text.{at, end_text};
 ghost use Rattle.schedule_text.specs.Progress.{IsGap};
 ghost use Rattle.schedule_text.specs.Words.{EndsWord};

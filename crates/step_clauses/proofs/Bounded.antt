@@ -5,7 +5,7 @@ use Rattle.std.specs.List.{AllByRecursion, flat_map, range_with_len}
 use Rattle.circuit_core.specs.Order.{is_performed}
 use Rattle.trap_model.specs.Trap.{place_count, limit_of}
 use Rattle.trap_model.specs.Channels.{is_through, channels_of}
-use Rattle.trap_model.specs.Build.{IsTrap}
+use Rattle.trap_parts.specs.Build.{IsTrap}
 use Rattle.trap_model.specs.declared.channel.Channel.{Channel}
 use Rattle.step_rules.specs.Setting.{SettingValue}
 use Rattle.step_rules.specs.Guards.{is_able_for}

@@ -9,7 +9,7 @@ use Rattle.qc_base.specs.declared.ids.End.TheVariants.{A, B}
 use Rattle.qc_base.specs.declared.ids.PlaceId.{PlaceId}
 use Rattle.trap_model.specs.Trap.{place_count, is_zone}
 use Rattle.trap_model.specs.Channels.{merges}
-use Rattle.trap_model.specs.Joins.{same_end}
+use Rattle.trap_parts.specs.Joins.{same_end}
 use Rattle.trap_model.specs.declared.channel.Channel.{Channel}
 use Rattle.ion_chain.specs.Passing.{outward, leaving, left, joined}
 use Rattle.ion_chain.specs.Transfer.{list_at}

@@ -7,16 +7,17 @@ use Rattle.std.proofs.lemmas.Bool.{cond_both, lt-ltb, le-ltb, eq-eqb, both_ways}
 use Rattle.std.proofs.lemmas.Option.{same_Some}
 use Rattle.qc_base.specs.declared.ids.End.{End}
 use Rattle.qc_base.specs.declared.ids.End.TheVariants.{A, B}
-use Rattle.trap_model.specs.declared.parts.SegmentPart.{SegmentPart}
+use Rattle.trap_parts.specs.declared.parts.SegmentPart.{SegmentPart}
 use Rattle.trap_model.specs.declared.channel.Channel.{Channel}
-use Rattle.trap_model.specs.declared.port.Link.{Link}
-use Rattle.trap_model.specs.declared.port.Link.TheVariants as links
-use Rattle.trap_model.specs.declared.port.SlotEnd.{SlotEnd}
-use Rattle.trap_model.specs.Trap.{TrapValue, is_zone}
-use Rattle.trap_model.specs.Joins.{links_of, slot_end, arms_of, arm_at}
+use Rattle.trap_parts.specs.declared.port.Link.{Link}
+use Rattle.trap_parts.specs.declared.port.Link.TheVariants as links
+use Rattle.trap_parts.specs.declared.port.SlotEnd.{SlotEnd}
+use Rattle.trap_parts.specs.Parts.{TrapValue}
+use Rattle.trap_model.specs.Trap.{is_zone}
+use Rattle.trap_parts.specs.Joins.{links_of, slot_end, arms_of, arm_at}
 use Rattle.trap_model.specs.Channels.{splits, merges, dock_channels, move_channels, moves_from, cross_channels, cross, crossings_of, channels_of}
-use Rattle.trap_model.specs.Build.{IsTrap}
-use Rattle.trap_model.proofs.Known.{AreLinks, links_known}
+use Rattle.trap_parts.specs.Build.{IsTrap}
+use Rattle.trap_parts.proofs.Known.{AreLinks, links_known}
 use Rattle.trap_model.proofs.Rows.{row_of}
 
 -- which of its ends are zones, by its kind

@@ -8,20 +8,21 @@ use Rattle.qc_base.specs.declared.ids.End.{End}
 use Rattle.qc_base.specs.declared.ids.JunctionId.{JunctionId}
 use Rattle.qc_base.specs.declared.ids.Ion.{Ion}
 use Rattle.qc_base.specs.declared.ids.End.TheVariants.{A, B}
-use Rattle.trap_model.specs.declared.port.SlotEnd.{SlotEnd}
+use Rattle.trap_parts.specs.declared.port.SlotEnd.{SlotEnd}
 use Rattle.trap_model.specs.declared.channel.Kind.{Kind}
 use Rattle.trap_model.specs.declared.channel.Kind.TheVariants.{Split, Move, Cross, Merge}
-use Rattle.trap_model.specs.Trap.{TrapValue, place_count, is_zone, slot_at}
+use Rattle.trap_parts.specs.Parts.{TrapValue}
+use Rattle.trap_model.specs.Trap.{place_count, is_zone, slot_at}
 use Rattle.trap_model.specs.Channels.{channels_of, splits, merges, is_through, channel as channel_of, split, merge, cross, same_segment, is_that, is_split, is_merge, is_move, is_cross, channel_at, arm_of, move_channel, cross_channel, number_by}
-use Rattle.trap_model.specs.Build.{IsTrap}
+use Rattle.trap_parts.specs.Build.{IsTrap}
 use Rattle.trap_model.specs.declared.channel.Channel.{Channel}
-use Rattle.trap_model.specs.Joins.{joined_slot}
+use Rattle.trap_parts.specs.Joins.{joined_slot}
 use Rattle.trap_model.proofs.Numbers.{own_number}
 use Rattle.trap_model.proofs.Docks.{split_leads, merge_leads}
 use Rattle.trap_model.proofs.Moves.{move_leads}
 use Rattle.trap_model.proofs.Crosses.{cross_leads, no_cross_channel}
 use Rattle.trap_model.proofs.Within.{channels_within}
-use Rattle.trap_model.proofs.Known.{position_at}
+use Rattle.trap_parts.proofs.Known.{position_at}
 use Rattle.step_rules.specs.declared.action.Action.{Action}
 use Rattle.step_rules.specs.Setting.{SettingValue}
 use Rattle.step_rules.specs.ActionChannel.{channel_for, passing, action_through, action_by}

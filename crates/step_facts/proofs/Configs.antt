@@ -11,7 +11,8 @@ use Rattle.qc_base.specs.declared.ids.Qubit.{Qubit}
 use Rattle.qc_base.specs.declared.ids.Ion.{Ion}
 use Rattle.qc_base.specs.Counting.{how_many}
 use Rattle.qc_base.specs.declared.ids.End.TheVariants.{A, B}
-use Rattle.trap_model.specs.Trap.{place_count, TrapValue}
+use Rattle.trap_parts.specs.Parts.{TrapValue}
+use Rattle.trap_model.specs.Trap.{place_count}
 use Rattle.ion_chain.specs.Transfer.{list_at}
 use Rattle.step_rules.specs.declared.action.Action.{Action}
 use Rattle.step_rules.specs.Placement.{start_of, reading_order, ions_from}

@@ -7,7 +7,7 @@ use Rattle.std.proofs.lemmas.List.Elements.{All-contains}
 use Rattle.qc_base.specs.declared.ids.Ion.{Ion}
 use Rattle.qc_base.specs.declared.ids.OpId.{OpId}
 use Rattle.qc_base.specs.declared.ids.PlaceId.{PlaceId}
-use Rattle.trap_model.specs.Trap.{TrapValue}
+use Rattle.trap_parts.specs.Parts.{TrapValue}
 use Rattle.trap_model.specs.declared.channel.Channel.{Channel}
 use Rattle.trap_model.specs.Channels.{split_channel, move_channel, cross_channel, merge_channel}
 use Rattle.ion_chain.specs.Passing.{leaving, left, joined}

@@ -19,7 +19,7 @@ use Rattle.circuit_core.specs.Order.{is_performed}
 use Rattle.trap_model.specs.Trap.{limit_of, place_count, is_zone}
 use Rattle.trap_model.specs.Channels.{splits, merges}
 use Rattle.trap_model.specs.declared.channel.Channel.{Channel}
-use Rattle.trap_model.specs.Build.{IsTrap}
+use Rattle.trap_parts.specs.Build.{IsTrap}
 use Rattle.trap_model.specs.declared.channel.Kind.{Kind}
 use Rattle.trap_model.specs.declared.channel.Kind.TheVariants.{Split, Move, Cross, Merge}
 use Rattle.ion_chain.specs.Passing.{outward, leaving, left}

@@ -3,7 +3,7 @@ use Rattle.std.proofs.Common.{◌≡◌, ℕ, Bool, true, false, not, List, [], 
 use Rattle.std.specs.Prelude.{IsTrue, if◌then◌else◌, ◌↔◌, ◌⊎◌}
 use Rattle.std.proofs.lemmas.Bool.{cases_Bool, not_from_false}
 use Rattle.trap_model.specs.Trap.{is_zone}
-use Rattle.trap_model.specs.Joins.{same_end}
+use Rattle.trap_parts.specs.Joins.{same_end}
 use Rattle.trap_model.specs.declared.channel.Channel.{Channel}
 use Rattle.step_rules.specs.Setting.{SettingValue}
 use Rattle.circuit_core.specs.Order.{is_performed}

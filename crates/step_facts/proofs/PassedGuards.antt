@@ -11,11 +11,12 @@ use Rattle.qc_base.specs.declared.ids.End.{End}
 use Rattle.circuit_core.specs.declared.op.Op.{Op}
 use Rattle.circuit_core.specs.Op.{qubits_of}
 use Rattle.circuit_core.specs.Order.{is_performed}
-use Rattle.trap_model.specs.Trap.{TrapValue, limit_of, is_zone}
-use Rattle.trap_model.specs.declared.port.SlotEnd.{SlotEnd}
+use Rattle.trap_parts.specs.Parts.{TrapValue}
+use Rattle.trap_model.specs.Trap.{limit_of, is_zone}
+use Rattle.trap_parts.specs.declared.port.SlotEnd.{SlotEnd}
 use Rattle.trap_model.specs.declared.channel.Channel.{Channel}
 use Rattle.trap_model.specs.Channels.{merge}
-use Rattle.trap_model.specs.Joins.{joined_slot}
+use Rattle.trap_parts.specs.Joins.{joined_slot}
 use Rattle.ion_chain.specs.Transfer.{list_at}
 use Rattle.step_rules.specs.declared.action.Action.{Action}
 use Rattle.step_rules.specs.declared.action.Action.TheVariants as actions

@@ -7,7 +7,7 @@ use Rattle.qc_base.specs.declared.ids.Ion.{Ion}
 use Rattle.qc_base.specs.declared.ids.End.{End}
 use Rattle.qc_base.specs.declared.ids.End.TheVariants.{A, B}
 use Rattle.qc_base.specs.Counting.{how_many}
-use Rattle.trap_model.specs.Joins.{same_end}
+use Rattle.trap_parts.specs.Joins.{same_end}
 use Rattle.ion_chain.specs.Passing.{outward, leaving, left, joined}
 use Rattle.ion_chain.proofs.Passed.{outward-outward, length-outward, IsPermutation-outward}
 use Rattle.step_vars.specs.Lists.{is_there, is_before}

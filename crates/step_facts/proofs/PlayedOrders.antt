@@ -5,7 +5,7 @@ use Rattle.std.proofs.lemmas.Bool.{cases_Bool, and_from, eq-eqb, both_ways, lt-l
 use Rattle.std.proofs.lemmas.List.Elements.{All-contains}
 use Rattle.qc_base.specs.declared.ids.Ion.{Ion}
 use Rattle.trap_model.specs.Trap.{place_count, is_zone}
-use Rattle.trap_model.specs.Joins.{same_end}
+use Rattle.trap_parts.specs.Joins.{same_end}
 use Rattle.trap_model.specs.declared.channel.Channel.{Channel}
 use Rattle.ion_chain.specs.Passing.{outward, left, joined}
 use Rattle.ion_chain.specs.Transfer.{list_at}

@@ -5,7 +5,7 @@ use Rattle.qc_base.specs.Counting.{how_many}
 use Rattle.circuit_core.specs.Deciding.{is_forced}
 use Rattle.circuit_core.specs.Order.{is_performed}
 use Rattle.trap_model.specs.Trap.{place_count, limit_of, is_zone}
-use Rattle.trap_model.specs.Joins.{same_end}
+use Rattle.trap_parts.specs.Joins.{same_end}
 use Rattle.trap_model.specs.Channels.{is_through, splits, merges}
 use Rattle.trap_model.specs.declared.channel.Channel.{Channel}
 use Rattle.step_rules.specs.Setting.{SettingValue}

@@ -1,6 +1,6 @@
 -- What all parts of the encoding say of the facts: of the start, of each step, and of the goal.
 use Rattle.std.specs.Prelude.{◌≡◌, ℕ, suc, ◌<◌, ◌≤◌, true}
-use Rattle.trap_model.specs.Build.{IsTrap}
+use Rattle.trap_parts.specs.Build.{IsTrap}
 use Rattle.circuit_core.specs.Circuit.{IsCircuit}
 use Rattle.step_rules.specs.Setting.{SettingValue}
 use Rattle.step_rules.specs.Placement.{IsPlacement}

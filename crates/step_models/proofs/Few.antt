@@ -6,11 +6,11 @@ use Rattle.std.proofs.lemmas.Bool.{cond_both}
 use Rattle.std.proofs.lemmas.List.{length-map}
 use Rattle.std.proofs.Math.Nat.{mul-le-mul_right}
 use Rattle.circuit_core.specs.Deciding.{is_forced}
-use Rattle.trap_model.specs.Joins.{same_end}
+use Rattle.trap_parts.specs.Joins.{same_end}
 use Rattle.trap_model.specs.Trap.{place_count}
 use Rattle.trap_model.specs.declared.channel.Channel.{Channel}
 use Rattle.trap_model.specs.Channels.{channels_of, is_through}
-use Rattle.trap_model.specs.Build.{IsTrap}
+use Rattle.trap_parts.specs.Build.{IsTrap}
 use Rattle.trap_model.proofs.Count.{few_channels}
 use Rattle.step_rules.specs.Setting.{SettingValue}
 use Rattle.step_rules.specs.Guards.{is_able_for}

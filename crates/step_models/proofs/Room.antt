@@ -7,7 +7,7 @@ use Rattle.std.proofs.Math.ListN.{length-map}
 use Rattle.std.proofs.Math.Nat.{mul-le-mul_left, mul-le-mul_right}
 use Rattle.trap_model.specs.Trap.{place_count}
 use Rattle.trap_model.specs.Channels.{channels_of, is_through}
-use Rattle.trap_model.specs.Build.{IsTrap}
+use Rattle.trap_parts.specs.Build.{IsTrap}
 use Rattle.trap_model.proofs.Count.{few_channels}
 use Rattle.step_rules.specs.Setting.{SettingValue}
 use Rattle.circuit_core.specs.Order.{is_performed}

@@ -7,7 +7,8 @@ use Rattle.std.proofs.lemmas.List.Elements.{All-head, All-tail}
 use Rattle.qc_base.specs.declared.ids.Qubit.{Qubit}
 use Rattle.circuit_core.specs.Circuit.{CircuitValue, qubit_count}
 use Rattle.circuit_core.specs.Deciding.{is_listed}
-use Rattle.trap_model.specs.Trap.{TrapValue, limit_of}
+use Rattle.trap_parts.specs.Parts.{TrapValue}
+use Rattle.trap_model.specs.Trap.{limit_of}
 use Rattle.step_rules.specs.Placement.{IsPlacement, reading_order, times, first_repeated, zone_fault, zones_fault, missing_fault, placement_of}
 use Rattle.step_rules.proofs.Reading.{times-append, times_none, times_some}
 

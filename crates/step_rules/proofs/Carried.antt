@@ -6,7 +6,8 @@ use Rattle.std.proofs.lemmas.List.{get_or-set_other}
 use Rattle.std.proofs.lemmas.List.Elements.{All-head, All-tail}
 use Rattle.qc_base.specs.declared.ids.Ion.{Ion}
 use Rattle.circuit_core.specs.Order.{is_performed}
-use Rattle.trap_model.specs.Trap.{TrapValue, is_zone}
+use Rattle.trap_parts.specs.Parts.{TrapValue}
+use Rattle.trap_model.specs.Trap.{is_zone}
 use Rattle.trap_model.specs.Channels.{split_channel, move_channel, cross_channel, merge_channel}
 use Rattle.trap_model.specs.declared.channel.Channel.{Channel}
 use Rattle.ion_chain.specs.Transfer.{list_at}

@@ -10,11 +10,12 @@ use Rattle.qc_base.specs.declared.ids.Ion.{Ion}
 use Rattle.qc_base.specs.declared.ids.End.{End}
 use Rattle.qc_base.specs.declared.ids.End.TheVariants.{A, B}
 use Rattle.trap_model.specs.declared.channel.Kind.TheVariants.{Move}
-use Rattle.trap_model.specs.Trap.{TrapValue, slot_at}
-use Rattle.trap_model.specs.Joins.{joined_slot, arms_of}
+use Rattle.trap_parts.specs.Parts.{TrapValue}
+use Rattle.trap_model.specs.Trap.{slot_at}
+use Rattle.trap_parts.specs.Joins.{joined_slot, arms_of}
 use Rattle.trap_model.specs.Channels.{channel as channel_of, same_segment, split, merge, cross, split_channel, merge_channel, move_channel, cross_channel, arm_of}
 use Rattle.trap_model.specs.declared.channel.Channel.{Channel}
-use Rattle.trap_model.specs.declared.port.SlotEnd.{SlotEnd}
+use Rattle.trap_parts.specs.declared.port.SlotEnd.{SlotEnd}
 use Rattle.ion_chain.specs.declared.transfer.Transfer.{Transfer}
 use Rattle.ion_chain.specs.Passing.{leaving, left, joined}
 use Rattle.ion_chain.specs.Transfer.{list_at, after_transfer}

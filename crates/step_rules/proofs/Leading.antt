@@ -2,8 +2,8 @@
 use Rattle.std.proofs.Common.{◌≡◌, ℕ, None, Some, sym, ap, ◌∙◌}
 use Rattle.std.specs.Prelude.{Option, slice_get}
 use Rattle.qc_base.specs.declared.ids.JunctionId.{JunctionId}
-use Rattle.trap_model.specs.Trap.{TrapValue}
-use Rattle.trap_model.specs.Build.{IsTrap}
+use Rattle.trap_parts.specs.Parts.{TrapValue}
+use Rattle.trap_parts.specs.Build.{IsTrap}
 use Rattle.trap_model.specs.Channels.{channels_of, channel_at, number_by}
 use Rattle.trap_model.specs.declared.channel.Channel.{Channel}
 use Rattle.trap_model.specs.declared.channel.Kind.{Kind}

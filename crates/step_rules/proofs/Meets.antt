@@ -5,7 +5,7 @@ use Rattle.std.specs.List.{list_any}
 use Rattle.std.proofs.lemmas.Bool.{eq-eqb, eqb-true}
 use Rattle.circuit_core.specs.Circuit.{CircuitValue}
 use Rattle.step_rules.proofs.Meeting.{met, meets}
-use Rattle.trap_model.specs.Trap.{TrapValue}
+use Rattle.trap_parts.specs.Parts.{TrapValue}
 use Rattle.step_rules.specs.declared.action.Action.{Action}
 use Rattle.step_rules.specs.declared.spots.Footprint.{Footprint}
 use Rattle.step_rules.specs.Steps.{Spot, place, junction, footprint}

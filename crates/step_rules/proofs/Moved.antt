@@ -11,18 +11,19 @@ use Rattle.std.proofs.lemmas.List.Edits.{length-swap}
 use Rattle.qc_base.specs.declared.ids.Ion.{Ion}
 use Rattle.qc_base.specs.declared.ids.End.{End}
 use Rattle.qc_base.specs.declared.ids.End.TheVariants.{A, B}
-use Rattle.trap_model.specs.Trap.{TrapValue, limit_of, load_of, slot_at, place_count, is_zone}
-use Rattle.trap_model.specs.Joins.{same_end, links_of, docked as docked_by, first_of, joined_slot, slot_end, first_slot, slots_of}
+use Rattle.trap_parts.specs.Parts.{TrapValue}
+use Rattle.trap_model.specs.Trap.{limit_of, load_of, slot_at, place_count, is_zone}
+use Rattle.trap_parts.specs.Joins.{same_end, links_of, docked as docked_by, first_of, joined_slot, slot_end, first_slot, slots_of}
 use Rattle.trap_model.specs.Channels.{channel as channel_of, merge, merge_channel, move_channel, same_segment}
-use Rattle.trap_model.specs.Build.{IsTrap}
-use Rattle.trap_model.specs.declared.port.Link.{Link}
-use Rattle.trap_model.specs.declared.port.Link.TheVariants as links
-use Rattle.trap_model.specs.declared.port.Slot.{Slot}
-use Rattle.trap_model.specs.declared.port.SlotEnd.{SlotEnd}
-use Rattle.trap_model.specs.declared.parts.ZonePart.{ZonePart}
-use Rattle.trap_model.specs.declared.parts.SegmentPart.{SegmentPart}
+use Rattle.trap_parts.specs.Build.{IsTrap}
+use Rattle.trap_parts.specs.declared.port.Link.{Link}
+use Rattle.trap_parts.specs.declared.port.Link.TheVariants as links
+use Rattle.trap_model.specs.declared.slot.Slot.{Slot}
+use Rattle.trap_parts.specs.declared.port.SlotEnd.{SlotEnd}
+use Rattle.trap_parts.specs.declared.parts.ZonePart.{ZonePart}
+use Rattle.trap_parts.specs.declared.parts.SegmentPart.{SegmentPart}
 use Rattle.trap_model.specs.declared.channel.Channel.{Channel}
-use Rattle.trap_model.proofs.Known.{IsLink, AreLinks, links_known}
+use Rattle.trap_parts.proofs.Known.{IsLink, AreLinks, links_known}
 use Rattle.trap_model.proofs.Rows.{row_of}
 use Rattle.ion_chain.specs.declared.transfer.Transfer.{Transfer}
 use Rattle.ion_chain.specs.Passing.{leaving, left, joined}

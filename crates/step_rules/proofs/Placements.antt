@@ -10,9 +10,10 @@ use Rattle.std.proofs.lemmas.Option.{same_Some, slice_get_within, slice_get-get_
 use Rattle.std.proofs.lemmas.List.{drop_more, take_more, take_all, drop_all, append-nil}
 use Rattle.qc_base.specs.declared.ids.Qubit.{Qubit}
 use Rattle.circuit_core.specs.Circuit.{CircuitValue, qubit_count}
-use Rattle.trap_model.specs.Trap.{TrapValue, limit_of, load_of, slot_at}
-use Rattle.trap_model.specs.Build.{IsTrap}
-use Rattle.trap_model.specs.declared.parts.ZonePart.{ZonePart}
+use Rattle.trap_parts.specs.Parts.{TrapValue}
+use Rattle.trap_model.specs.Trap.{limit_of, load_of, slot_at}
+use Rattle.trap_parts.specs.Build.{IsTrap}
+use Rattle.trap_parts.specs.declared.parts.ZonePart.{ZonePart}
 use Rattle.step_rules.specs.declared.placement.GivenFault.{GivenFault}
 use Rattle.step_rules.specs.declared.placement.GivenFault.TheVariants.{Repeated, Full, Missing}
 use Rattle.circuit_core.specs.Deciding.{is_listed}

@@ -2,7 +2,8 @@
 use Rattle.std.specs.Prelude.{◌≡◌, ℕ, ◌<◌, ◌≤◌, List, length, slice_index, IsPermutation}
 use Rattle.std.specs.List.{flat_map}
 use Rattle.qc_base.specs.declared.ids.Ion.{Ion}
-use Rattle.trap_model.specs.Trap.{TrapValue, place_count, limit_of}
+use Rattle.trap_parts.specs.Parts.{TrapValue}
+use Rattle.trap_model.specs.Trap.{place_count, limit_of}
 use Rattle.ion_chain.specs.Transfer.{list_at}
 
 -- the ions of each place, and how many each has room for

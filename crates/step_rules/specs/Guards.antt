@@ -8,7 +8,8 @@ use Rattle.qc_base.specs.declared.ids.Ion.{Ion}
 use Rattle.circuit_core.specs.declared.op.Op.{Op}
 use Rattle.circuit_core.specs.Op.{qubits_of}
 use Rattle.circuit_core.specs.Order.{is_performed}
-use Rattle.trap_model.specs.Trap.{TrapValue, place_count, is_zone, is_able}
+use Rattle.trap_parts.specs.Parts.{TrapValue}
+use Rattle.trap_model.specs.Trap.{place_count, is_zone, is_able}
 use Rattle.trap_model.specs.Channels.{split_channel, move_channel, cross_channel, merge_channel}
 use Rattle.trap_model.specs.declared.channel.Channel.{Channel}
 use Rattle.ion_chain.specs.Transfer.{list_at}

@@ -4,9 +4,9 @@ use Rattle.qc_base.specs.declared.ids.Qubit.{Qubit}
 use Rattle.circuit_core.specs.Circuit.{CircuitValue}
 use Rattle.circuit_core.specs.declared.op.Op.{Op}
 use Rattle.circuit_core.specs.declared.op.Op.TheVariants.{U, Cx, Opaque, Measure, Reset, Barrier}
-use Rattle.trap_model.specs.Trap.{TrapValue}
-use Rattle.trap_model.specs.declared.parts.Need.{Need}
-use Rattle.trap_model.specs.declared.parts.Need.TheVariants.{One, Two, Read}
+use Rattle.trap_parts.specs.Parts.{TrapValue}
+use Rattle.trap_parts.specs.declared.parts.Need.{Need}
+use Rattle.trap_parts.specs.declared.parts.Need.TheVariants.{One, Two, Read}
 
 pub record SettingValue : Type 0 where
   pub trap : TrapValue

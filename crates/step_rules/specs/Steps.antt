@@ -3,9 +3,9 @@ use Rattle.std.specs.Prelude.{◌≡◌, ℕ, ◌+◌, List, [], ◌∷◌, All,
 use Rattle.std.specs.Option.{option_map_or}
 use Rattle.qc_base.specs.declared.ids.Ion.{Ion}
 use Rattle.qc_base.specs.declared.ids.End.{End}
-use Rattle.trap_model.specs.Trap.{TrapValue}
-use Rattle.trap_model.specs.Joins.{joined_slot}
-use Rattle.trap_model.specs.declared.port.SlotEnd.{SlotEnd}
+use Rattle.trap_parts.specs.Parts.{TrapValue}
+use Rattle.trap_parts.specs.Joins.{joined_slot}
+use Rattle.trap_parts.specs.declared.port.SlotEnd.{SlotEnd}
 use Rattle.trap_model.specs.declared.channel.Channel.{Channel}
 use Rattle.ion_chain.specs.Transfer.{list_at, after_transfer}
 use Rattle.step_rules.specs.declared.action.Action.{Action}

@@ -2,7 +2,7 @@
 
 ghost use Rattle.std.specs.Prelude.{◌≡◌, ◌<◌, IfSome};
 ghost use Rattle.trap_model.specs.Channels.{channel_at};
-ghost use Rattle.trap_model.specs.Build.{IsTrap};
+ghost use Rattle.trap_parts.specs.Build.{IsTrap};
 ghost use Rattle.step_rules.specs.ActionChannel.{channel_for, transfer, IsWithin};
 
 use crate::action::Action;

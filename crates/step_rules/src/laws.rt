@@ -4,8 +4,8 @@ ghost use Rattle.std.specs.Prelude.{◌≡◌, ℕ, ◌<◌, List, length, All, 
 ghost use Rattle.qc_base.specs.declared.ids.Ion.{Ion};
 ghost use Rattle.qc_base.specs.declared.ids.Qubit.{Qubit};
 ghost use Rattle.circuit_core.specs.Circuit.{CircuitValue, IsCircuit, qubit_count};
-ghost use Rattle.trap_model.specs.Trap.{TrapValue};
-ghost use Rattle.trap_model.specs.Build.{IsTrap};
+ghost use Rattle.trap_parts.specs.Parts.{TrapValue};
+ghost use Rattle.trap_parts.specs.Build.{IsTrap};
 ghost use Rattle.trap_model.specs.Channels.{channels_of};
 ghost use Rattle.trap_model.specs.declared.channel.Channel.{Channel};
 ghost use Rattle.ion_chain.specs.Transfer.{list_at};

@@ -7,12 +7,13 @@ use Rattle.std.proofs.lemmas.Bool.{cases_lt, lt-ltb, le-ltb}
 use Rattle.std.proofs.lemmas.Option.{slice_get_past}
 use Rattle.std.proofs.lemmas.List.FromFn.{length-map-range_with_len}
 use Rattle.std.proofs.Math.ListN.{length-map}
-use Rattle.trap_model.specs.declared.parts.ZonePart.{ZonePart}
-use Rattle.trap_model.specs.declared.parts.SegmentPart.{SegmentPart}
+use Rattle.trap_parts.specs.declared.parts.ZonePart.{ZonePart}
+use Rattle.trap_parts.specs.declared.parts.SegmentPart.{SegmentPart}
 use Rattle.trap_model.specs.declared.channel.Channel.{Channel}
-use Rattle.trap_model.specs.Trap.{TrapValue, place_count, limit_of}
+use Rattle.trap_parts.specs.Parts.{TrapValue}
+use Rattle.trap_model.specs.Trap.{place_count, limit_of}
 use Rattle.trap_model.specs.Channels.{channels_of, is_through}
-use Rattle.trap_model.specs.Build.{IsTrap}
+use Rattle.trap_parts.specs.Build.{IsTrap}
 use Rattle.trap_model.proofs.Slots.{slot_place}
 use Rattle.trap_model.proofs.Moves.{slot_of_place}
 use Rattle.step_rules.specs.Setting.{SettingValue}

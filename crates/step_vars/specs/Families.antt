@@ -4,7 +4,7 @@
 use Rattle.std.specs.Prelude.{ℕ, ◌==◌, not, if◌then◌else◌, List, [], ◌∷◌, ◌++◌, map, filter, ◌&&◌}
 use Rattle.std.specs.List.{flat_map}
 use Rattle.trap_model.specs.Trap.{limit_of, is_zone}
-use Rattle.trap_model.specs.Joins.{same_end}
+use Rattle.trap_parts.specs.Joins.{same_end}
 use Rattle.trap_model.specs.Channels.{is_through}
 use Rattle.step_rules.specs.Setting.{SettingValue}
 use Rattle.step_vars.specs.declared.cells.Cell.{Cell}

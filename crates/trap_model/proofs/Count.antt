@@ -6,17 +6,17 @@ use Rattle.std.proofs.lemmas.Map.Made.{IsDistinct-from_AllPairs}
 use Rattle.std.proofs.lemmas.Map.Steps.{length-le_from_distinct_below}
 use Rattle.qc_base.specs.declared.ids.End.{End}
 use Rattle.qc_base.specs.declared.ids.End.TheVariants.{A, B}
-use Rattle.trap_model.specs.declared.parts.SegmentPart.{SegmentPart}
-use Rattle.trap_model.specs.declared.port.Port.TheVariants as ports
-use Rattle.trap_model.specs.declared.port.Link.{Link}
-use Rattle.trap_model.specs.declared.port.Link.TheVariants as links
-use Rattle.trap_model.specs.declared.port.SlotEnd.{SlotEnd}
-use Rattle.trap_model.specs.Trap.{TrapValue, slot_count}
-use Rattle.trap_model.specs.Joins.{links_of, ends_of, arms_of}
+use Rattle.trap_parts.specs.declared.parts.SegmentPart.{SegmentPart}
+use Rattle.trap_parts.specs.declared.port.Port.TheVariants as ports
+use Rattle.trap_parts.specs.declared.port.Link.{Link}
+use Rattle.trap_parts.specs.declared.port.Link.TheVariants as links
+use Rattle.trap_parts.specs.declared.port.SlotEnd.{SlotEnd}
+use Rattle.trap_parts.specs.Parts.{TrapValue, slot_count}
+use Rattle.trap_parts.specs.Joins.{links_of, ends_of, arms_of}
 use Rattle.trap_model.specs.Channels.{dock_channels, move_channels, moves_from, cross_channels, cross, crossings_of, channels_of}
-use Rattle.trap_model.specs.Build.{same_port, IsTrap}
-use Rattle.trap_model.proofs.Joined.{same_port_decides}
-use Rattle.trap_model.proofs.Known.{IsLink, AreLinks, links_known}
+use Rattle.trap_parts.specs.Build.{same_port, IsTrap}
+use Rattle.trap_parts.proofs.Joined.{same_port_decides}
+use Rattle.trap_parts.proofs.Known.{IsLink, AreLinks, links_known}
 
 -- each end of a segment has a number
 end_number : ℕ → End → ℕ

@@ -4,13 +4,13 @@ use Rattle.std.specs.List.{flat_map, range_with_len, filter_map}
 use Rattle.std.specs.Option.{option_or, option_map, option_and_then}
 use Rattle.std.proofs.lemmas.Bool.{cases_lt, cases_eq, cases_Bool, eq-eqb, ne_eqb, and_left, and_right}
 use Rattle.trap_model.specs.declared.channel.Channel.{Channel}
-use Rattle.trap_model.specs.declared.port.Link.{Link}
-use Rattle.trap_model.specs.declared.port.Link.TheVariants as links
-use Rattle.trap_model.specs.declared.port.SlotEnd.{SlotEnd}
-use Rattle.trap_model.specs.Trap.{TrapValue}
-use Rattle.trap_model.specs.Joins.{links_of, arms_of, arm_at}
+use Rattle.trap_parts.specs.declared.port.Link.{Link}
+use Rattle.trap_parts.specs.declared.port.Link.TheVariants as links
+use Rattle.trap_parts.specs.declared.port.SlotEnd.{SlotEnd}
+use Rattle.trap_parts.specs.Parts.{TrapValue}
+use Rattle.trap_parts.specs.Joins.{links_of, arms_of, arm_at}
 use Rattle.trap_model.specs.Channels.{cross, cross_channels, crossings_of, channel_at, is_cross, cross_of, cross_channel}
-use Rattle.trap_model.proofs.Known.{AreLinks, links_known}
+use Rattle.trap_parts.proofs.Known.{AreLinks, links_known}
 use Rattle.trap_model.proofs.Finds.{channel_found, find_parts, find-append, no_moves, no_docks, no_crossings, no_junction, or_none}
 
 -- no junction of that number: no arms

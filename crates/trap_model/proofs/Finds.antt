@@ -4,13 +4,13 @@ use Rattle.std.specs.List.{position_from, flat_map, range_with_len}
 use Rattle.std.specs.Option.{option_and_then, option_or}
 use Rattle.std.proofs.lemmas.Bool.{cond_both}
 use Rattle.qc_base.specs.declared.ids.End.{End}
-use Rattle.trap_model.specs.declared.parts.SegmentPart.{SegmentPart}
+use Rattle.trap_parts.specs.declared.parts.SegmentPart.{SegmentPart}
 use Rattle.trap_model.specs.declared.channel.Channel.{Channel}
-use Rattle.trap_model.specs.declared.port.Link.{Link}
-use Rattle.trap_model.specs.declared.port.Link.TheVariants as links
-use Rattle.trap_model.specs.declared.port.SlotEnd.{SlotEnd}
-use Rattle.trap_model.specs.Trap.{TrapValue}
-use Rattle.trap_model.specs.Joins.{links_of, slot_end, arms_of}
+use Rattle.trap_parts.specs.declared.port.Link.{Link}
+use Rattle.trap_parts.specs.declared.port.Link.TheVariants as links
+use Rattle.trap_parts.specs.declared.port.SlotEnd.{SlotEnd}
+use Rattle.trap_parts.specs.Parts.{TrapValue}
+use Rattle.trap_parts.specs.Joins.{links_of, slot_end, arms_of}
 use Rattle.trap_model.specs.Channels.{split, merge, cross, dock_channels, move_channels, moves_from, cross_channels, crossings_of, channels_of, channel_at}
 use Rattle.trap_model.proofs.Slots.{slice_get_right}
 

@@ -1,13 +1,7 @@
-pub mod Doubles
 pub mod Pieces
-pub mod Known
 pub mod Rows
 pub mod Finding
 pub mod Passages
-pub mod Distinct
-pub mod Passed
-pub mod Joined
-pub mod Sound
 pub mod Slots
 pub mod Count
 pub mod Finds
@@ -17,6 +11,5 @@ pub mod Crosses
 pub mod Within
 pub mod ReadTables
 pub mod PlaceTexts
-pub mod Accepted
 pub mod Counts
 pub mod Numbers

@@ -5,12 +5,13 @@ use Rattle.std.specs.Option.{option_or}
 use Rattle.std.proofs.lemmas.Bool.{cases_lt, cases_eq, eq-eqb, ne_eqb, eqb-true, cond-true, cond-false, lt-ltb, and_left, and_right}
 use Rattle.std.proofs.lemmas.Option.{slice_get_past}
 use Rattle.qc_base.specs.declared.ids.End.TheVariants.{A, B}
-use Rattle.trap_model.specs.declared.parts.SegmentPart.{SegmentPart}
+use Rattle.trap_parts.specs.declared.parts.SegmentPart.{SegmentPart}
 use Rattle.trap_model.specs.declared.channel.Kind.TheVariants.{Move}
 use Rattle.trap_model.specs.declared.channel.Channel.{Channel}
-use Rattle.trap_model.specs.declared.port.Slot.{Slot}
-use Rattle.trap_model.specs.Trap.{TrapValue, slot, slots_from, slot_count, slot_at, place_count}
-use Rattle.trap_model.specs.Joins.{firsts_from, first_slot, slots_of, links_of}
+use Rattle.trap_model.specs.declared.slot.Slot.{Slot}
+use Rattle.trap_parts.specs.Parts.{TrapValue, slot_count}
+use Rattle.trap_model.specs.Trap.{slot, slots_from, slot_at, place_count}
+use Rattle.trap_parts.specs.Joins.{firsts_from, first_slot, slots_of, links_of}
 use Rattle.trap_model.specs.Channels.{channel, move_channels, moves_from, channel_at, is_move, move_of, move_channel, same_segment}
 use Rattle.trap_model.proofs.Rows.{row_begins}
 use Rattle.trap_model.proofs.Slots.{slots_in, slot_place, slot_at_row, slot_at_after_zones, length-slots_from, IsSlotPlace}

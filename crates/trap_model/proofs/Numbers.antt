@@ -8,21 +8,22 @@ use Rattle.qc_base.specs.declared.ids.End.{End}
 use Rattle.qc_base.specs.declared.ids.End.TheVariants.{A, B}
 use Rattle.qc_base.specs.declared.ids.JunctionId.{JunctionId}
 use Rattle.qc_base.specs.Counting.{how_many}
-use Rattle.trap_model.specs.declared.parts.SegmentPart.{SegmentPart}
+use Rattle.trap_parts.specs.declared.parts.SegmentPart.{SegmentPart}
 use Rattle.trap_model.specs.declared.channel.Kind.{Kind}
 use Rattle.trap_model.specs.declared.channel.Kind.TheVariants.{Split, Move, Cross, Merge}
 use Rattle.trap_model.specs.declared.channel.Channel.{Channel}
-use Rattle.trap_model.specs.declared.port.Port.TheVariants as ports
-use Rattle.trap_model.specs.declared.port.Link.{Link}
-use Rattle.trap_model.specs.declared.port.Link.TheVariants as links
-use Rattle.trap_model.specs.declared.port.Slot.{Slot}
-use Rattle.trap_model.specs.declared.port.SlotEnd.{SlotEnd}
-use Rattle.trap_model.specs.Trap.{TrapValue, slot_at}
-use Rattle.trap_model.specs.Joins.{same_end, links_of, ends_of, first_slot, slots_of, slot_end, arm_at, arms_of}
+use Rattle.trap_parts.specs.declared.port.Port.TheVariants as ports
+use Rattle.trap_parts.specs.declared.port.Link.{Link}
+use Rattle.trap_parts.specs.declared.port.Link.TheVariants as links
+use Rattle.trap_model.specs.declared.slot.Slot.{Slot}
+use Rattle.trap_parts.specs.declared.port.SlotEnd.{SlotEnd}
+use Rattle.trap_parts.specs.Parts.{TrapValue}
+use Rattle.trap_model.specs.Trap.{slot_at}
+use Rattle.trap_parts.specs.Joins.{same_end, links_of, ends_of, first_slot, slots_of, slot_end, arm_at, arms_of}
 use Rattle.trap_model.specs.Channels.{splits, merges, moves, cross, dock_channels, move_channels, moves_from, cross_channels, crossings_of, channels_of, is_split, is_merge, is_move, is_that, is_through, is_cross, number_by, number_of}
-use Rattle.trap_model.specs.Build.{same_port, segments_at, IsTrap}
-use Rattle.trap_model.proofs.Joined.{same_port_decides}
-use Rattle.trap_model.proofs.Known.{AreLinks, links_known}
+use Rattle.trap_parts.specs.Build.{same_port, segments_at, IsTrap}
+use Rattle.trap_parts.proofs.Joined.{same_port_decides}
+use Rattle.trap_parts.proofs.Known.{AreLinks, links_known}
 use Rattle.trap_model.proofs.Rows.{row_of}
 use Rattle.trap_model.proofs.Slots.{slot_at_row}
 use Rattle.trap_model.proofs.Finds.{no_docks, no_moves, no_crossings, no_junction}

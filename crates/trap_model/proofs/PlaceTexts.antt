@@ -1,5 +1,5 @@
 -- How places are written, and which place a text is.
-use Rattle.std.proofs.Common.{◌≡◌, ◌≢◌, ◌==◌, ℕ, ◌+◌, ◌-◌, ◌<◌, ◌≤◌, ◌^◌, Bool, true, false, ◌&&◌, List, [], ◌∷◌, ◌++◌, length, take, drop, get_or, find, Option, None, Some, zero, suc, refl, sym, ap, ◌∙◌, arith, slice_get, inl, inr, eqb, leb, append_assoc, codes, map, length-append}
+use Rattle.std.proofs.Common.{◌≡◌, ◌≢◌, ◌==◌, ℕ, ◌+◌, ◌-◌, ◌<◌, ◌≤◌, ◌^◌, Bool, true, false, ◌&&◌, List, [], ◌∷◌, ◌++◌, length, get_or, find, Option, None, Some, zero, suc, refl, sym, ap, ◌∙◌, arith, slice_get, inl, inr, eqb, leb, append_assoc, codes, map, length-append}
 use Rattle.std.specs.Fmt.{decimal}
 use Rattle.std.specs.List.{AllPairs, range_with_len, list_all, list_any, position_from}
 use Rattle.std.proofs.lemmas.List.Folds.{list_any_at, list_any_none}
@@ -7,20 +7,21 @@ use Rattle.std.specs.Option.{option_map, MatchOption}
 use Rattle.std.specs.Str.{bytes_eq}
 use Rattle.std.proofs.lemmas.Bool.{cases_lt, cases_eq, cases_order, cases_Bool, cond-true, cond-false, and_parts, or_parts, or_right, both_ways, eq-eqb, ne_eqb, false_from_ne_true}
 use Rattle.std.proofs.lemmas.Fmt.{decimal_injective}
-use Rattle.std.proofs.lemmas.List.{get_or_append_left, get_or-append-add, get_or_default, length-map, take-append-drop, drop_more}
+use Rattle.std.proofs.lemmas.List.{get_or_append_left, get_or-append-add, get_or_default, length-map}
 use Rattle.std.proofs.lemmas.Option.{none-some, same_Some, slice_get_past, slice_get_read, slice_get_cases, slice_get-map, get_or_from_slice_get}
 use Rattle.std.proofs.lemmas.Slice.Eq.{bytes_eq-Decides}
 use Rattle.qc_base.specs.declared.ids.PlaceId.{PlaceId}
-use Rattle.trap_model.specs.declared.parts.SegmentPart.{SegmentPart}
-use Rattle.trap_model.specs.declared.parts.ZonePart.{ZonePart}
-use Rattle.trap_model.specs.declared.port.Slot.{Slot}
-use Rattle.trap_model.specs.Names.{is_name, is_word, begins_with_letter}
+use Rattle.trap_parts.specs.declared.parts.SegmentPart.{SegmentPart}
+use Rattle.trap_parts.specs.declared.parts.ZonePart.{ZonePart}
+use Rattle.trap_model.specs.declared.slot.Slot.{Slot}
+use Rattle.trap_parts.specs.Names.{is_name, is_word, begins_with_letter}
 use Rattle.qc_base.specs.Spelling.{IsFree}
 use Rattle.trap_model.specs.Texts.{IsSlotText, IsNoSlotText}
-use Rattle.trap_model.specs.Trap.{TrapValue, names_of, slot, place_count, place_text, place_named}
-use Rattle.trap_model.specs.Joins.{firsts_from, first_slot, slots_of, zone_named, segment_named}
-use Rattle.trap_model.specs.Build.{IsTrap}
-use Rattle.trap_model.proofs.Known.{position_at}
+use Rattle.trap_parts.specs.Parts.{TrapValue, names_of}
+use Rattle.trap_model.specs.Trap.{slot, place_count, place_text, place_named}
+use Rattle.trap_parts.specs.Joins.{firsts_from, first_slot, slots_of, zone_named, segment_named}
+use Rattle.trap_parts.specs.Build.{IsTrap}
+use Rattle.trap_parts.proofs.Known.{position_at}
 use Rattle.trap_model.proofs.Rows.{row_of, length-firsts_from}
 use Rattle.trap_model.proofs.Slots.{IsSlotRead, slot_place, slot_at_row}
 use Rattle.trap_model.proofs.Moves.{no_slot_past, slot_of_place}

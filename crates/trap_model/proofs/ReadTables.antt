@@ -6,12 +6,12 @@ use Rattle.std.proofs.lemmas.Option.{none-some}
 use Rattle.std.proofs.lemmas.List.FromFn.{length-map-range_with_len, get_or-map-range_with_len}
 use Rattle.qc_base.specs.declared.ids.End.{End}
 use Rattle.trap_model.specs.declared.channel.Channel.{Channel}
-use Rattle.trap_model.specs.declared.port.Link.{Link}
-use Rattle.trap_model.specs.declared.port.Link.TheVariants as links
-use Rattle.trap_model.specs.Trap.{TrapValue}
-use Rattle.trap_model.specs.Joins.{links_of, docked, first_of, joined_slot}
+use Rattle.trap_parts.specs.declared.port.Link.{Link}
+use Rattle.trap_parts.specs.declared.port.Link.TheVariants as links
+use Rattle.trap_parts.specs.Parts.{TrapValue}
+use Rattle.trap_parts.specs.Joins.{links_of, docked, first_of, joined_slot}
 use Rattle.trap_model.specs.Channels.{channels_of, channel_at}
-use Rattle.trap_model.proofs.Known.{AreLinks, links_known}
+use Rattle.trap_parts.proofs.Known.{AreLinks, links_known}
 use Rattle.trap_model.proofs.Finds.{channel_found}
 
 pub table_length : {X : Type 0} (f : ℕ → X) (table : List X) (n : ℕ) → table ≡ map f (range_with_len 0 n) → length table ≡ n

@@ -2,10 +2,11 @@
 use Rattle.std.proofs.Common.{◌≡◌, ℕ, ◌+◌, ◌<◌, ◌≤◌, List, [], ◌∷◌, length, get_or, Some, zero, suc, refl, sym, ap, arith, slice_get, slice_index, inl, inr}
 use Rattle.std.proofs.lemmas.Option.{slice_get_read, slice_get_cases}
 use Rattle.std.specs.Option.{option_map_or}
-use Rattle.trap_model.specs.declared.parts.SegmentPart.{SegmentPart}
-use Rattle.trap_model.specs.Trap.{TrapValue, slot_count, place_count}
-use Rattle.trap_model.specs.Joins.{firsts_from, first_slot, slots_of}
-use Rattle.trap_model.specs.Build.{IsTrap}
+use Rattle.trap_parts.specs.declared.parts.SegmentPart.{SegmentPart}
+use Rattle.trap_parts.specs.Parts.{TrapValue, slot_count}
+use Rattle.trap_model.specs.Trap.{place_count}
+use Rattle.trap_parts.specs.Joins.{firsts_from, first_slot, slots_of}
+use Rattle.trap_parts.specs.Build.{IsTrap}
 
 pub length-firsts_from : (place : ℕ) (segments : List SegmentPart) → length (firsts_from place segments) ≡ length segments
 length-firsts_from place [] = refl

@@ -5,10 +5,11 @@ use Rattle.std.specs.Option.{option_map_or}
 use Rattle.std.proofs.lemmas.Bool.{cases_lt, le-ltb, cond-false}
 use Rattle.std.proofs.lemmas.Option.{slice_get-get_or, slice_get_past, slice_get_read, get_or_from_slice_get}
 use Rattle.std.proofs.lemmas.List.FromFn.{length-map-range_with_len, get_or-map-range_with_len}
-use Rattle.trap_model.specs.declared.parts.SegmentPart.{SegmentPart}
-use Rattle.trap_model.specs.declared.port.Slot.{Slot}
-use Rattle.trap_model.specs.Trap.{TrapValue, slot, slots_from, slot_count, slot_at, place_count, limit_of}
-use Rattle.trap_model.specs.Joins.{firsts_from, first_slot, slots_of}
+use Rattle.trap_parts.specs.declared.parts.SegmentPart.{SegmentPart}
+use Rattle.trap_model.specs.declared.slot.Slot.{Slot}
+use Rattle.trap_parts.specs.Parts.{TrapValue, slot_count}
+use Rattle.trap_model.specs.Trap.{slot, slots_from, slot_at, place_count, limit_of}
+use Rattle.trap_parts.specs.Joins.{firsts_from, first_slot, slots_of}
 use Rattle.trap_model.proofs.Rows.{row_begins}
 
 pub slice_get_left : {X : Type 0} (xs ys : List X) (k : ℕ) → k < length xs → slice_get (xs ++ ys) k ≡ slice_get xs k

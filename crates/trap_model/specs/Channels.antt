@@ -5,16 +5,17 @@ use Rattle.std.specs.List.{flat_map, range_with_len, position_from}
 use Rattle.qc_base.specs.declared.ids.End.{End}
 use Rattle.qc_base.specs.declared.ids.End.TheVariants.{A, B}
 use Rattle.qc_base.specs.declared.ids.JunctionId.{JunctionId}
-use Rattle.trap_model.specs.declared.parts.SegmentPart.{SegmentPart}
+use Rattle.trap_parts.specs.declared.parts.SegmentPart.{SegmentPart}
 use Rattle.trap_model.specs.declared.channel.Kind.{Kind}
 use Rattle.trap_model.specs.declared.channel.Kind.TheVariants.{Split, Move, Cross, Merge}
 use Rattle.trap_model.specs.declared.channel.Channel.{Channel}
-use Rattle.trap_model.specs.declared.port.Link.{Link}
-use Rattle.trap_model.specs.declared.port.Link.TheVariants as links
-use Rattle.trap_model.specs.declared.port.Slot.{Slot}
-use Rattle.trap_model.specs.declared.port.SlotEnd.{SlotEnd}
-use Rattle.trap_model.specs.Trap.{TrapValue, place_count, slot_at}
-use Rattle.trap_model.specs.Joins.{same_end, links_of, slot_end, joined_slot, arms_of}
+use Rattle.trap_parts.specs.declared.port.Link.{Link}
+use Rattle.trap_parts.specs.declared.port.Link.TheVariants as links
+use Rattle.trap_model.specs.declared.slot.Slot.{Slot}
+use Rattle.trap_parts.specs.declared.port.SlotEnd.{SlotEnd}
+use Rattle.trap_parts.specs.Parts.{TrapValue}
+use Rattle.trap_model.specs.Trap.{place_count, slot_at}
+use Rattle.trap_parts.specs.Joins.{same_end, links_of, slot_end, joined_slot, arms_of}
 
 abbrev pub splits : Kind → Bool
 splits Split = true

@@ -4,15 +4,16 @@ use Rattle.std.specs.List.{position_from, range_with_len, list_any}
 use Rattle.qc_base.specs.declared.ids.End.{End}
 use Rattle.qc_base.specs.declared.ids.End.TheVariants.{A, B}
 use Rattle.trap_model.specs.declared.channel.Channel.{Channel}
-use Rattle.trap_model.specs.declared.port.Slot.{Slot}
+use Rattle.trap_model.specs.declared.slot.Slot.{Slot}
 use Rattle.trap_model.specs.declared.tables.Door.{Door}
 use Rattle.trap_model.specs.declared.tables.Doors.{Doors}
 use Rattle.trap_model.specs.declared.tables.Steps.{Steps}
 use Rattle.trap_model.specs.declared.tables.Passage.{Passage}
-use Rattle.trap_model.specs.Trap.{TrapValue, place_count, slots_from}
-use Rattle.trap_model.specs.Joins.{firsts_from}
+use Rattle.trap_parts.specs.Parts.{TrapValue}
+use Rattle.trap_model.specs.Trap.{place_count, slots_from}
+use Rattle.trap_parts.specs.Joins.{firsts_from}
 use Rattle.trap_model.specs.Channels.{channels_of, is_split, is_merge, is_move, is_through}
-use Rattle.trap_model.specs.Build.{IsTrap}
+use Rattle.trap_parts.specs.Build.{IsTrap}
 
 abbrev pub door_of : List Channel → ℕ → End → Door
 door_of channels zone end =

@@ -1,6 +1,7 @@
 -- Which texts are those of slots.
 use Rattle.std.specs.Prelude.{◌≡◌, ◌≢◌, ℕ, ◌<◌, ◌≤◌, List, length}
-use Rattle.trap_model.specs.Trap.{TrapValue, place_count, place_text}
+use Rattle.trap_parts.specs.Parts.{TrapValue}
+use Rattle.trap_model.specs.Trap.{place_count, place_text}
 
 -- the place is a slot, and is written so
 pub record IsSlotText (trap : TrapValue) (place : ℕ) (text : List ℕ) : Type 0 where

@@ -1,10 +1,10 @@
 //! The channels through which ions pass from place to place.
 
 ghost use Rattle.std.specs.Prelude.{◌≡◌};
-ghost use Rattle.trap_model.specs.Joins.{same_end};
 ghost use Rattle.trap_model.specs.Channels.{is_split, is_merge, is_move, is_through, is_cross};
 
 use qc_base::{End, JunctionId, PlaceId};
+use trap_parts::same_end;
 
 /// What passes: a part of a zone's ions, a whole chain from slot to slot, or a chain into a zone.
 #[derive(Clone, Copy, Debug, PartialEq, Eq)]
@@ -24,13 +24,6 @@ pub struct Channel {
     pub to: PlaceId,
     pub to_end: End,
     pub junction: Option<JunctionId>,
-}
-
-// Whether both are the same end.
-pub(crate) fn same_end(end: End, other: End) -> bool
-    ensures { result ≡ same_end end other }
-{
-    end == other
 }
 
 impl Channel {

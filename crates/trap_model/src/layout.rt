@@ -2,166 +2,165 @@
 
 ghost use Rattle.std.specs.Prelude.{◌≡◌, ◌+◌, ◌<◌, ◌^◌, ◌++◌, ◌∷◌, [], length, map, IfOk, OnOk, None};
 ghost use Rattle.std.specs.List.{flat_map, range_with_len};
-ghost use Rattle.trap_model.specs.Trap.{TrapValue, lists, slot, slots_from};
-ghost use Rattle.trap_model.specs.Joins.{links_of, firsts_from, slot_end, arms_of};
+ghost use Rattle.trap_parts.specs.Parts.{TrapValue, lists};
+ghost use Rattle.trap_model.specs.Trap.{slot, slots_from};
+ghost use Rattle.trap_parts.specs.Joins.{links_of, firsts_from, slot_end, arms_of};
 ghost use Rattle.trap_model.specs.Channels.{channel, split, merge, dock_channels, move_channels, moves_from, cross_channels, crossings_of, channels_of};
-ghost use Rattle.trap_model.specs.Build.{IsTrap};
+ghost use Rattle.trap_parts.specs.Build.{IsTrap};
 
 use crate::channel::{Channel, Kind};
-use crate::parts::TrapParts;
-use crate::port::{Link, Slot, SlotEnd};
+use crate::slot::Slot;
 use qc_base::{End, JunctionId, NoMemory, PlaceId};
 use std::alloc::Global;
+use trap_parts::{Link, SlotEnd, TrapParts};
 
-impl TrapParts {
-    // The slots in the order of their places.
-    pub(crate) fn slots(&self, alloc: Global) -> Result<Vec<Slot>, NoMemory>
-        ensures { IfOk result (λ slots. slots.items ≡ slots_from 0 self.now.segments.items) }
-    {
-        let mut slots = Vec::new(alloc);
-        for (k, segment) in self.segments.iter().enumerate() {
-            push_slots(k, segment.slots, &mut slots)?;
+// The slots in the order of their places.
+pub(crate) fn find_slots(alloc: Global, parts: &TrapParts) -> Result<Vec<Slot>, NoMemory>
+    ensures { IfOk result (λ slots. slots.items ≡ slots_from 0 parts.now.segments.items) }
+{
+    let mut slots = Vec::new(alloc);
+    for (k, segment) in parts.segments.iter().enumerate() {
+        push_slots(k, segment.slots, &mut slots)?;
+    }
+    Ok(slots)
+}
+
+// The place of the first slot of each segment.
+pub(crate) fn find_firsts(alloc: Global, parts: &TrapParts) -> Result<Vec<u32>, NoMemory>
+    requires { IsTrap (lists parts.now) }
+    ensures { IfOk result
+        (λ firsts. firsts.items ≡ firsts_from (length parts.now.zones.items) parts.now.segments.items) }
+{
+    let mut firsts = Vec::new(alloc);
+    let mut place = parts.zones.len() as u32;
+    for segment in &parts.segments {
+        firsts.push(place)?;
+        place += segment.slots;
+    }
+    Ok(firsts)
+}
+
+// The slot's end that is an end of the segment.
+fn slot_end(parts: &TrapParts, firsts: &[u32], segment: usize, end: End) -> SlotEnd
+    requires trap { IsTrap (lists parts.now) }
+    requires firsts { firsts.now ≡ firsts_from (length parts.now.zones.items) parts.now.segments.items }
+    requires there { segment < length parts.now.segments.items }
+    ensures { result ≡ slot_end (lists parts.now) segment end }
+{
+    let first = firsts[segment];
+    let slot = match end {
+        End::A => first,
+        End::B => first + parts.segments[segment].slots - 1,
+    };
+    SlotEnd { slot, end }
+}
+
+// The arms of a junction.
+fn find_arms(
+    alloc: Global,
+    parts: &TrapParts,
+    firsts: &[u32],
+    links: &[Link],
+    junction: usize,
+) -> Result<Vec<SlotEnd>, NoMemory>
+    requires trap { IsTrap (lists parts.now) }
+    requires firsts { firsts.now ≡ firsts_from (length parts.now.zones.items) parts.now.segments.items }
+    requires links { links.now ≡ links_of (lists parts.now) }
+    ensures { IfOk result (λ arms. arms.items ≡ arms_of (lists parts.now) junction) }
+{
+    let mut arms = Vec::new(alloc);
+    for link in links {
+        if let Some(segment) = link.segment_at(junction) {
+            arms.push(slot_end(parts, firsts, segment, link.segment_end()))?;
         }
-        Ok(slots)
     }
+    Ok(arms)
+}
 
-    // The place of the first slot of each segment.
-    pub(crate) fn firsts(&self, alloc: Global) -> Result<Vec<u32>, NoMemory>
-        requires { IsTrap (lists self.now) }
-        ensures { IfOk result
-            (λ firsts. firsts.items ≡ firsts_from (length self.now.zones.items) self.now.segments.items) }
-    {
-        let mut firsts = Vec::new(alloc);
-        let mut place = self.zones.len() as u32;
-        for segment in &self.segments {
-            firsts.push(place)?;
-            place += segment.slots;
+// For each join of a zone: split from the zone, then merge into it.
+fn push_docks(
+    parts: &TrapParts,
+    firsts: &[u32],
+    links: &[Link],
+    channels: &mut Vec<Channel>,
+) -> Result<(), NoMemory>
+    requires trap { IsTrap (lists parts.now) }
+    requires firsts { firsts.now ≡ firsts_from (length parts.now.zones.items) parts.now.segments.items }
+    requires links { links.now ≡ links_of (lists parts.now) }
+    ensures { OnOk result
+        (channels.new.items ≡ channels.old.items ++ flat_map (dock_channels (lists parts.now)) links.now) }
+{
+    for link in links {
+        if let Link::Dock {
+            zone,
+            zone_end,
+            segment,
+            segment_end,
+        } = link
+        {
+            let slot = slot_end(parts, firsts, *segment, *segment_end);
+            push_dock(*zone as u32, *zone_end, slot, channels)?;
         }
-        Ok(firsts)
     }
+    Ok(())
+}
 
-    // The slot's end that is an end of the segment.
-    fn slot_end(&self, firsts: &[u32], segment: usize, end: End) -> SlotEnd
-        requires trap { IsTrap (lists self.now) }
-        requires firsts { firsts.now ≡ firsts_from (length self.now.zones.items) self.now.segments.items }
-        requires there { segment < length self.now.segments.items }
-        ensures { result ≡ slot_end (lists self.now) segment end }
-    {
-        let first = firsts[segment];
-        let slot = match end {
-            End::A => first,
-            End::B => first + self.segments[segment].slots - 1,
-        };
-        SlotEnd { slot, end }
+// For each segment and each slot but the last: from it to the next, then back.
+fn push_moves(parts: &TrapParts, channels: &mut Vec<Channel>) -> Result<(), NoMemory>
+    requires { IsTrap (lists parts.now) }
+    ensures { OnOk result
+        (channels.new.items
+        ≡ channels.old.items ++ moves_from (length parts.now.zones.items) parts.now.segments.items) }
+{
+    let mut place = parts.zones.len() as u32;
+    for segment in &parts.segments {
+        push_segment(place, segment.slots - 1, channels)?;
+        place += segment.slots;
     }
+    Ok(())
+}
 
-    // The arms of a junction.
-    fn arms(
-        &self,
-        alloc: Global,
-        firsts: &[u32],
-        links: &[Link],
-        junction: usize,
-    ) -> Result<Vec<SlotEnd>, NoMemory>
-        requires trap { IsTrap (lists self.now) }
-        requires firsts { firsts.now ≡ firsts_from (length self.now.zones.items) self.now.segments.items }
-        requires links { links.now ≡ links_of (lists self.now) }
-        ensures { IfOk result (λ arms. arms.items ≡ arms_of (lists self.now) junction) }
-    {
-        let mut arms = Vec::new(alloc);
-        for link in links {
-            if let Some(segment) = link.segment_at(junction) {
-                arms.push(self.slot_end(firsts, segment, link.segment_end()))?;
-            }
-        }
-        Ok(arms)
+// For each junction and each ordered pair of different arms.
+#[tactic(auto, using(crate::proofs::Pieces::flat_map_range_more))]
+fn push_crossings(
+    alloc: Global,
+    parts: &TrapParts,
+    firsts: &[u32],
+    links: &[Link],
+    channels: &mut Vec<Channel>,
+) -> Result<(), NoMemory>
+    requires trap { IsTrap (lists parts.now) }
+    requires firsts { firsts.now ≡ firsts_from (length parts.now.zones.items) parts.now.segments.items }
+    requires links { links.now ≡ links_of (lists parts.now) }
+    ensures { OnOk result
+        (channels.new.items
+        ≡ channels.old.items
+        ++ flat_map (crossings_of (lists parts.now)) (range_with_len 0 (length parts.now.junctions.items))) }
+{
+    for junction in 0..parts.junctions.len() {
+        let arms = find_arms(alloc, parts, firsts, links, junction)?;
+        push_junction(junction as u32, arms.as_slice(), channels)?;
     }
+    Ok(())
+}
 
-    // For each join of a zone: split from the zone, then merge into it.
-    fn push_docks(
-        &self,
-        firsts: &[u32],
-        links: &[Link],
-        channels: &mut Vec<Channel>,
-    ) -> Result<(), NoMemory>
-        requires trap { IsTrap (lists self.now) }
-        requires firsts { firsts.now ≡ firsts_from (length self.now.zones.items) self.now.segments.items }
-        requires links { links.now ≡ links_of (lists self.now) }
-        ensures { OnOk result
-            (channels.new.items ≡ channels.old.items ++ flat_map (dock_channels (lists self.now)) links.now) }
-    {
-        for link in links {
-            if let Link::Dock {
-                zone,
-                zone_end,
-                segment,
-                segment_end,
-            } = link
-            {
-                let slot = self.slot_end(firsts, *segment, *segment_end);
-                push_dock(*zone as u32, *zone_end, slot, channels)?;
-            }
-        }
-        Ok(())
-    }
-
-    // For each segment and each slot but the last: from it to the next, then back.
-    fn push_moves(&self, channels: &mut Vec<Channel>) -> Result<(), NoMemory>
-        requires { IsTrap (lists self.now) }
-        ensures { OnOk result
-            (channels.new.items
-            ≡ channels.old.items ++ moves_from (length self.now.zones.items) self.now.segments.items) }
-    {
-        let mut place = self.zones.len() as u32;
-        for segment in &self.segments {
-            push_segment(place, segment.slots - 1, channels)?;
-            place += segment.slots;
-        }
-        Ok(())
-    }
-
-    // For each junction and each ordered pair of different arms.
-    #[tactic(auto, using(crate::proofs::Pieces::flat_map_range_more))]
-    fn push_crossings(
-        &self,
-        alloc: Global,
-        firsts: &[u32],
-        links: &[Link],
-        channels: &mut Vec<Channel>,
-    ) -> Result<(), NoMemory>
-        requires trap { IsTrap (lists self.now) }
-        requires firsts { firsts.now ≡ firsts_from (length self.now.zones.items) self.now.segments.items }
-        requires links { links.now ≡ links_of (lists self.now) }
-        ensures { OnOk result
-            (channels.new.items
-            ≡ channels.old.items
-            ++ flat_map (crossings_of (lists self.now)) (range_with_len 0 (length self.now.junctions.items))) }
-    {
-        for junction in 0..self.junctions.len() {
-            let arms = self.arms(alloc, firsts, links, junction)?;
-            push_junction(junction as u32, arms.as_slice(), channels)?;
-        }
-        Ok(())
-    }
-
-    // The channels in the order of their numbers.
-    pub(crate) fn channels(
-        &self,
-        alloc: Global,
-        firsts: &[u32],
-        links: &[Link],
-    ) -> Result<Vec<Channel>, NoMemory>
-        requires trap { IsTrap (lists self.now) }
-        requires firsts { firsts.now ≡ firsts_from (length self.now.zones.items) self.now.segments.items }
-        requires links { links.now ≡ links_of (lists self.now) }
-        ensures { IfOk result (λ channels. channels.items ≡ channels_of (lists self.now)) }
-    {
-        let mut channels = Vec::new(alloc);
-        self.push_docks(firsts, links, &mut channels)?;
-        self.push_moves(&mut channels)?;
-        self.push_crossings(alloc, firsts, links, &mut channels)?;
-        Ok(channels)
-    }
+// The channels in the order of their numbers.
+pub(crate) fn find_channels(
+    alloc: Global,
+    parts: &TrapParts,
+    firsts: &[u32],
+    links: &[Link],
+) -> Result<Vec<Channel>, NoMemory>
+    requires trap { IsTrap (lists parts.now) }
+    requires firsts { firsts.now ≡ firsts_from (length parts.now.zones.items) parts.now.segments.items }
+    requires links { links.now ≡ links_of (lists parts.now) }
+    ensures { IfOk result (λ channels. channels.items ≡ channels_of (lists parts.now)) }
+{
+    let mut channels = Vec::new(alloc);
+    push_docks(parts, firsts, links, &mut channels)?;
+    push_moves(parts, &mut channels)?;
+    push_crossings(alloc, parts, firsts, links, &mut channels)?;
+    Ok(channels)
 }
 
 // The slots of one segment.

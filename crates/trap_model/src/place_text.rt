@@ -4,7 +4,8 @@ ghost use Rattle.std.specs.Prelude.{◌≡◌, ◌≢◌, ℕ, ◌<◌, ◌++◌
 ghost use Rattle.std.specs.Option.{option_map};
 ghost use Rattle.std.specs.Fmt.{decimal};
 ghost use Rattle.trap_model.specs.Texts.{IsSlotText, IsNoSlotText};
-ghost use Rattle.trap_model.specs.Trap.{TrapValue, place_text, place_named, junction_named};
+ghost use Rattle.trap_parts.specs.Parts.{TrapValue, junction_named};
+ghost use Rattle.trap_model.specs.Trap.{place_text, place_named};
 
 use crate::trap::Trap;
 use itoa::Buffer;

@@ -4,12 +4,12 @@ use Rattle.std.specs.Option.{option_map, ok_or}
 use Rattle.std.proofs.lemmas.Result.{IfOk-at_ok}
 use Rattle.std.proofs.lemmas.Bool.{false≢true}
 use Rattle.toml.specs.Data.{Data, string, integer, float, boolean, datetime, array, table, Items, no_items, item, Members, no_members, member, get_member}
-use Rattle.trap_model.specs.declared.fault.TrapFault.{TrapFault}
-use Rattle.trap_model.specs.declared.fault.TrapFault.TheVariants as faults
-use Rattle.trap_model.specs.declared.parts.ZonePart.{ZonePart}
-use Rattle.trap_model.specs.Trap.{TrapValue}
-use Rattle.trap_model.specs.Names.{is_name}
-use Rattle.trap_model.specs.Build.{build_of}
+use Rattle.trap_parts.specs.declared.fault.TrapFault.{TrapFault}
+use Rattle.trap_parts.specs.declared.fault.TrapFault.TheVariants as faults
+use Rattle.trap_parts.specs.declared.parts.ZonePart.{ZonePart}
+use Rattle.trap_parts.specs.Parts.{TrapValue}
+use Rattle.trap_parts.specs.Names.{is_name}
+use Rattle.trap_parts.specs.Build.{build_of}
 use Rattle.trap_read.specs.declared.fault.KeyAt.{KeyAt}
 use Rattle.trap_read.specs.declared.fault.Section.{Section}
 use Rattle.trap_read.specs.declared.fault.Section.TheVariants.{Zone, Segment, Junction, Join}

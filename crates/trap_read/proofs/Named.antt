@@ -4,9 +4,9 @@ use Rattle.std.specs.List.{All}
 use Rattle.std.proofs.lemmas.Bool.{cases_Bool}
 use Rattle.std.proofs.lemmas.List.Elements.{All-append, All-map, All-cons, All-nil}
 use Rattle.toml.specs.Data.{Data, string, integer, float, boolean, datetime, array, table, Items, no_items, item, get_member}
-use Rattle.trap_model.specs.Names.{is_name}
-use Rattle.trap_model.specs.Trap.{names_of}
-use Rattle.trap_model.specs.Build.{AreNames}
+use Rattle.trap_parts.specs.Names.{is_name}
+use Rattle.trap_parts.specs.Parts.{names_of}
+use Rattle.trap_parts.specs.Build.{AreNames}
 use Rattle.trap_read.specs.declared.fault.KeyAt.{KeyAt}
 use Rattle.trap_read.specs.declared.fault.Section.{Section}
 use Rattle.trap_read.specs.declared.fault.Section.TheVariants.{Zone, Segment, Junction, Join}

@@ -2,10 +2,10 @@
 use Rattle.std.proofs.Common.{◌≡◌, ℕ, List, Option, Result, Ok, Err, IfOk, refl, subst}
 use Rattle.std.specs.Option.{ok_or}
 use Rattle.toml.specs.Data.{Members}
-use Rattle.trap_model.specs.declared.fault.TrapFault.{TrapFault}
-use Rattle.trap_model.specs.Trap.{TrapValue, names_of}
-use Rattle.trap_model.specs.Build.{AreNames, build_of, IsTrap}
-use Rattle.trap_model.proofs.Sound.{built_trap}
+use Rattle.trap_parts.specs.declared.fault.TrapFault.{TrapFault}
+use Rattle.trap_parts.specs.Parts.{TrapValue, names_of}
+use Rattle.trap_parts.specs.Build.{AreNames, build_of, IsTrap}
+use Rattle.trap_parts.proofs.Sound.{built_trap}
 use Rattle.trap_read.specs.declared.fault.TrapText.{TrapText}
 use Rattle.trap_read.specs.declared.fault.TrapText.TheVariants.{Toml}
 use Rattle.trap_read.specs.Labels.{given_of, place_passes}

@@ -7,9 +7,9 @@ use Rattle.toml.specs.Data.{Data, string, integer, array, table, Items, no_items
 use Rattle.toml.specs.View.{table_view}
 use Rattle.qc_base.specs.declared.ids.End.{End}
 use Rattle.qc_base.specs.declared.ids.End.TheVariants.{A, B}
-use Rattle.trap_model.specs.declared.parts.EndName.{EndName}
-use Rattle.trap_model.specs.declared.parts.JoinPart.{JoinPart}
-use Rattle.trap_model.specs.Names.{is_name}
+use Rattle.trap_parts.specs.declared.parts.EndName.{EndName}
+use Rattle.trap_parts.specs.declared.parts.JoinPart.{JoinPart}
+use Rattle.trap_parts.specs.Names.{is_name}
 use Rattle.trap_read.specs.declared.fault.Section.{Section}
 use Rattle.trap_read.specs.declared.fault.Section.TheVariants.{Top, Zone, Segment, Junction, Join, Place}
 use Rattle.trap_read.specs.declared.fault.KeyAt.{KeyAt}

@@ -8,7 +8,7 @@ use Rattle.std.specs.Ordering.{nat_cmp}
 use Rattle.std.specs.Cmp.Lexicographic.{slice_cmp}
 use Rattle.std.specs.BTreeSet.{BTreeSet, contains_by}
 use Rattle.toml.specs.Data.{Members, no_members, member}
-use Rattle.trap_model.specs.declared.parts.ZonePart.{ZonePart}
+use Rattle.trap_parts.specs.declared.parts.ZonePart.{ZonePart}
 use Rattle.trap_read.specs.declared.fault.Section.TheVariants.{Place}
 use Rattle.trap_read.specs.declared.fault.KeyAt.{KeyAt}
 use Rattle.trap_read.specs.declared.fault.TrapText.{TrapText}

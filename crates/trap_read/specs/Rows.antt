@@ -1,9 +1,9 @@
 -- The rows of a trap file.
 use Rattle.std.specs.Prelude.{ℕ, ◌+◌, ◌-◌, ◌^◌, min, codes, List, [], ◌∷◌, ◌++◌, Result, Ok}
 use Rattle.toml.specs.Data.{table, Items, no_items, item, Members}
-use Rattle.trap_model.specs.declared.parts.ZonePart.{ZonePart}
-use Rattle.trap_model.specs.declared.parts.SegmentPart.{SegmentPart}
-use Rattle.trap_model.specs.declared.parts.JoinPart.{JoinPart}
+use Rattle.trap_parts.specs.declared.parts.ZonePart.{ZonePart}
+use Rattle.trap_parts.specs.declared.parts.SegmentPart.{SegmentPart}
+use Rattle.trap_parts.specs.declared.parts.JoinPart.{JoinPart}
 use Rattle.trap_read.specs.declared.fault.Section.{Section}
 use Rattle.trap_read.specs.declared.fault.TrapText.{TrapText}
 use Rattle.trap_read.specs.Answers.{◌>>=◌, ◌>>◌}

@@ -5,10 +5,10 @@ use Rattle.std.specs.Str.{is_utf8}
 use Rattle.toml.specs.Data.{Items, Members}
 use Rattle.toml.specs.View.{items_view, table_view}
 use Rattle.toml.specs.Parse.{parse_document}
-use Rattle.trap_model.specs.declared.fault.TrapFault.{TrapFault}
-use Rattle.trap_model.specs.declared.fault.TrapFault.TheVariants as faults
-use Rattle.trap_model.specs.Trap.{TrapValue}
-use Rattle.trap_model.specs.Build.{build_of}
+use Rattle.trap_parts.specs.declared.fault.TrapFault.{TrapFault}
+use Rattle.trap_parts.specs.declared.fault.TrapFault.TheVariants as faults
+use Rattle.trap_parts.specs.Parts.{TrapValue}
+use Rattle.trap_parts.specs.Build.{build_of}
 use Rattle.trap_read.specs.declared.fault.Section.TheVariants.{Top, Zone, Segment, Junction, Join}
 use Rattle.trap_read.specs.declared.fault.TrapText.{TrapText}
 use Rattle.trap_read.specs.declared.fault.TrapText.TheVariants.{Toml, Trap, NoMemory}

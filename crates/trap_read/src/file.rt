@@ -3,8 +3,8 @@
 ghost use Rattle.std.specs.Prelude.{◌≡◌, Ok, Err, length, IfOk, IfSome};
 ghost use Rattle.std.specs.Option.{option_map, ok_or};
 ghost use Rattle.toml.specs.View.{table_view, items_view};
-ghost use Rattle.trap_model.specs.Trap.{lists, names_of};
-ghost use Rattle.trap_model.specs.Build.{AreNames, build_of};
+ghost use Rattle.trap_parts.specs.Parts.{lists, names_of};
+ghost use Rattle.trap_parts.specs.Build.{AreNames, build_of};
 ghost use Rattle.trap_read.specs.Answers.{Gives, Fails};
 ghost use Rattle.trap_read.specs.Keys.{row_view};
 ghost use Rattle.trap_read.specs.TrapFile.{table_of, tops_of, tops_view, parts_of, refusal_of, as_refusal, file_of, trap_of};

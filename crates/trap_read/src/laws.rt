@@ -1,9 +1,9 @@
 //! What holds of all trap files.
 
 ghost use Rattle.std.specs.Prelude.{◌≡◌, ◌≢◌, ℕ, List, length, Option, Some, Ok, Err};
-ghost use Rattle.trap_model.specs.declared.fault.TrapFault.TheVariants as faults;
-ghost use Rattle.trap_model.specs.Trap.{TrapValue};
-ghost use Rattle.trap_model.specs.Build.{IsTrap};
+ghost use Rattle.trap_parts.specs.declared.fault.TrapFault.TheVariants as faults;
+ghost use Rattle.trap_parts.specs.Parts.{TrapValue};
+ghost use Rattle.trap_parts.specs.Build.{IsTrap};
 ghost use Rattle.trap_read.specs.declared.fault.TrapText.TheVariants.{Trap};
 ghost use Rattle.trap_read.specs.TrapFile.{trap_of};
 

@@ -9,8 +9,6 @@ mod labels;
 mod laws;
 mod row;
 mod rows;
-#[cfg(test)]
-mod tests;
 mod texts;
 
 pub use fault::{KeyAt, Section, TrapText};

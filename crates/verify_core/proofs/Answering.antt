@@ -5,7 +5,8 @@ use Rattle.std.proofs.lemmas.Result.{err_from_is_err_and}
 use Rattle.std.proofs.Math.Dec.{ltb}
 use Rattle.qc_base.specs.Shelf.{ShelfFacts, OnlyReads}
 use Rattle.circuit_core.specs.Circuit.{CircuitValue}
-use Rattle.trap_model.specs.Trap.{TrapValue, place_count}
+use Rattle.trap_parts.specs.Parts.{TrapValue}
+use Rattle.trap_model.specs.Trap.{place_count}
 use Rattle.step_rules.specs.Setting.{SettingValue, setting_of}
 use Rattle.step_vars.specs.Lists.{ion_count}
 use Rattle.step_vars.specs.Certifies.{Certifies}

@@ -5,7 +5,7 @@ use Rattle.std.specs.List.{flat_map}
 use Rattle.std.proofs.lemmas.Bool.{cases_lt}
 use Rattle.qc_base.specs.declared.ids.Qubit.{Qubit}
 use Rattle.circuit_core.specs.Circuit.{CircuitValue}
-use Rattle.trap_model.specs.Trap.{TrapValue}
+use Rattle.trap_parts.specs.Parts.{TrapValue}
 use Rattle.step_rules.specs.declared.action.Action.{Action}
 use Rattle.step_rules.specs.declared.action.Action.TheVariants as actions
 use Rattle.step_rules.specs.Setting.{SettingValue, setting_of}

@@ -6,8 +6,9 @@ use Rattle.std.proofs.lemmas.Bool.{cases_lt, ltb-false}
 use Rattle.sat_base.specs.Certificate.{head_text}
 use Rattle.sat_base.proofs.Deriving.{AreDerived-good, lines_refute}
 use Rattle.circuit_core.specs.Circuit.{CircuitValue, IsCircuit}
-use Rattle.trap_model.specs.Trap.{TrapValue, place_count}
-use Rattle.trap_model.specs.Build.{IsTrap}
+use Rattle.trap_parts.specs.Parts.{TrapValue}
+use Rattle.trap_model.specs.Trap.{place_count}
+use Rattle.trap_parts.specs.Build.{IsTrap}
 use Rattle.step_rules.specs.declared.action.Action.{Action}
 use Rattle.step_rules.specs.Setting.{SettingValue, setting_of}
 use Rattle.step_rules.specs.Play.{Plays}

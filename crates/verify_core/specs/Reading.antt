@@ -2,7 +2,7 @@
 use Rattle.std.specs.Prelude.{◌≡◌, ◌≢◌, ◌⊎◌, ℕ, zero, suc, ◌+◌, ◌<◌, ◌≤◌, ◌^◌, IsTrue, List, [], ◌++◌, length, Some, None, Result, Ok, Err}
 use Rattle.qc_base.specs.Shelf.{ShelfFacts, IsContent, OnlyReads}
 use Rattle.sat_base.specs.Literal.{Literal, positive_of}
-use Rattle.trap_model.specs.Build.{IsTrap}
+use Rattle.trap_parts.specs.Build.{IsTrap}
 use Rattle.circuit_core.specs.Circuit.{IsCircuit}
 use Rattle.step_rules.specs.Placement.{IsPlacement}
 use Rattle.step_rules.specs.Setting.{SettingValue}

@@ -4,7 +4,8 @@ use Rattle.qc_base.specs.Shelf.{ShelfFacts, IsContent, SameCounts}
 use Rattle.sat_base.specs.declared.certificate.Bound.{Bound}
 use Rattle.sat_base.specs.Certificate.{head_text}
 use Rattle.circuit_core.specs.Circuit.{CircuitValue}
-use Rattle.trap_model.specs.Trap.{TrapValue, place_count}
+use Rattle.trap_parts.specs.Parts.{TrapValue}
+use Rattle.trap_model.specs.Trap.{place_count}
 use Rattle.step_rules.specs.Setting.{SettingValue, setting_of}
 use Rattle.step_rules.specs.Play.{IsLeast}
 use Rattle.derivation_check.specs.declared.cert_fault.CertFault.{CertFault}

@@ -2,10 +2,10 @@
 
 ghost use Rattle.std.specs.Prelude.{◌≡◌, ℕ, List, Result};
 ghost use Rattle.circuit_core.specs.Circuit.{CircuitValue};
-ghost use Rattle.trap_model.specs.Trap.{TrapValue};
+ghost use Rattle.trap_parts.specs.Parts.{TrapValue};
 ghost use Rattle.verify_core.specs.declared.judge.Checked.{Checked};
 ghost use Rattle.verify_core.specs.declared.fault.CheckFault.{CheckFault};
-ghost use Rattle.trap_model.specs.Build.{IsTrap};
+ghost use Rattle.trap_parts.specs.Build.{IsTrap};
 ghost use Rattle.circuit_core.specs.Circuit.{IsCircuit};
 ghost use Rattle.verify_core.specs.declared.verify_fault.VerifyFault.{VerifyFault};
 ghost use Rattle.verify_core.specs.Judging.{Judges};

@@ -5,7 +5,7 @@ ghost use Rattle.qc_base.specs.Causes.{Rose};
 ghost use Rattle.qc_base.specs.Shelf.{OnlyReads};
 ghost use Rattle.qc_base.specs.declared.ids.Qubit.{Qubit};
 ghost use Rattle.circuit_core.specs.Circuit.{IsCircuit};
-ghost use Rattle.trap_model.specs.Build.{IsTrap};
+ghost use Rattle.trap_parts.specs.Build.{IsTrap};
 ghost use Rattle.step_rules.specs.Setting.{setting_of};
 ghost use Rattle.verify_core.specs.declared.verify_fault.VerifyFault.{VerifyFault as AFault};
 ghost use Rattle.verify_core.specs.Verifying.{too_large, KeepsCounts, VerifiesUnlessFailed, IsLeastText, Verifies, IsAnswerUnlessFailed};

@@ -1,6 +1,6 @@
 use Rattle.std.proofs.Common.{◌≡◌, ◌++◌, map, length, ap, subst, ◌∙◌, arith}
-use Rattle.trap_model.specs.Build.{IsTrap}
-use Rattle.trap_model.specs.Trap.{TrapValue}
+use Rattle.trap_parts.specs.Build.{IsTrap}
+use Rattle.trap_parts.specs.Parts.{TrapValue}
 use Rattle.trap_model.specs.Channels.{channels_of}
 use Rattle.trap_model.proofs.Count.{few_channels}
 use Rattle.step_rules.specs.Setting.{SettingValue}

@@ -2,7 +2,8 @@ use Rattle.std.proofs.Common.{◌≡◌, ℕ, ◌<◌, length, true, sym, ap, su
 use Rattle.std.specs.Prelude.{Option, IfSome}
 use Rattle.std.proofs.lemmas.Bool.{both_ways, not-true, not-false, eqb-true, eqb-false}
 use Rattle.qc_base.specs.declared.ids.Ion.{Ion}
-use Rattle.trap_model.specs.Trap.{TrapValue, is_able}
+use Rattle.trap_parts.specs.Parts.{TrapValue}
+use Rattle.trap_model.specs.Trap.{is_able}
 use Rattle.greedy_router.specs.Places.{home_of}
 use Rattle.greedy_router.proofs.Rounds.{job_in_homes, home_of_together, together_at_home}
 use Rattle.greedy_router.proofs.router.meeting.Goals.{in-Some+else-ne, in_default}

@@ -1,5 +1,5 @@
 use Rattle.std.proofs.Common.{refl}
-use Rattle.trap_model.proofs.Sound.{built_trap}
+use Rattle.trap_parts.proofs.Sound.{built_trap}
 use Rattle.load_setup.specs.Setup.{generated_trap}
 use Rattle.load_setup.proofs.Sound.{generated_is_built, generated_is_circuit, names_are_names}
 use Rattle.load_setup.proofs.laws.loads_are_sound.Goals as goal

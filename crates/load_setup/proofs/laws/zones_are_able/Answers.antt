@@ -1,6 +1,6 @@
 use Rattle.std.proofs.Common.{◌≡◌, ℕ, zero, suc, ◌+◌, ◌<◌, true, refl, arith}
-use Rattle.trap_model.specs.declared.parts.Need.{Need}
-use Rattle.trap_model.specs.declared.parts.Need.TheVariants.{One, Two, Read}
+use Rattle.trap_parts.specs.declared.parts.Need.{Need}
+use Rattle.trap_parts.specs.declared.parts.Need.TheVariants.{One, Two, Read}
 use Rattle.trap_model.specs.Trap.{has, is_able}
 use Rattle.load_setup.specs.Setup.{zone_part, generated_trap}
 use Rattle.load_setup.proofs.laws.zones_are_able.Goals as goal

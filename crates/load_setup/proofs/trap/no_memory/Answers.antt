@@ -1,8 +1,8 @@
 use Rattle.std.proofs.Common.{◌≡◌, ◌∙◌, sym, refl, Result, Ok, Err}
-use Rattle.trap_model.specs.declared.fault.TrapFault.{TrapFault}
-use Rattle.trap_model.specs.declared.fault.TrapFault.TheVariants.{NoZone, TooMany, Double, Capacity, Length, Load, Unknown, Pair, EndTaken, Arms, NoMemory}
-use Rattle.trap_model.specs.Trap.{TrapValue}
-use Rattle.trap_model.specs.Build.{Fails, build_of}
+use Rattle.trap_parts.specs.declared.fault.TrapFault.{TrapFault}
+use Rattle.trap_parts.specs.declared.fault.TrapFault.TheVariants.{NoZone, TooMany, Double, Capacity, Length, Load, Unknown, Pair, EndTaken, Arms, NoMemory}
+use Rattle.trap_parts.specs.Parts.{TrapValue}
+use Rattle.trap_parts.specs.Build.{Fails, build_of}
 use Rattle.load_setup.specs.Setup.{generated_trap}
 use Rattle.load_setup.proofs.Sound.{generated_is_built}
 use Rattle.load_setup.proofs.trap.no_memory.Goals as goal

@@ -1,4 +1,4 @@
-use Rattle.trap_model.specs.Trap.{lists}
+use Rattle.trap_parts.specs.Parts.{lists}
 use Rattle.load_setup.proofs.Sound.{names_are_names, built_is_generated}
 use Rattle.load_setup.proofs.trap.trap_of_six.Goals as goal
 

@@ -2,7 +2,7 @@ use Rattle.std.proofs.Common.{◌≡◌, ◌<◌, ◌≤◌, List, length, sym, 
 use Rattle.std.specs.Prelude.{All}
 use Rattle.qc_base.specs.declared.ids.Qubit.{Qubit}
 use Rattle.circuit_core.specs.Circuit.{qubit_count}
-use Rattle.trap_model.specs.declared.parts.ZonePart.{ZonePart}
+use Rattle.trap_parts.specs.declared.parts.ZonePart.{ZonePart}
 use Rattle.step_rules.specs.Placement.{reading_order}
 use Rattle.placement.specs.Faults.{Gives}
 use Rattle.placement.specs.Filling.{filled, room}

@@ -1,5 +1,5 @@
 use Rattle.std.proofs.Common.{ℕ, ◌<◌, List, get_or, IsTrue}
-use Rattle.trap_model.specs.Names.{is_name}
+use Rattle.trap_parts.specs.Names.{is_name}
 use Rattle.samples.proofs.traps.junctions_named.Given as goal
 
 -- the names before have the form

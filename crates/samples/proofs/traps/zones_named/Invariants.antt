@@ -1,6 +1,6 @@
 use Rattle.std.proofs.Common.{ℕ, ◌<◌, get_or, IsTrue}
-use Rattle.trap_model.specs.Names.{is_name}
-use Rattle.trap_model.specs.declared.parts.ZonePart.{ZonePart}
+use Rattle.trap_parts.specs.Names.{is_name}
+use Rattle.trap_parts.specs.declared.parts.ZonePart.{ZonePart}
 use Rattle.samples.proofs.traps.zones_named.Given as goal
 
 -- the names before have the form

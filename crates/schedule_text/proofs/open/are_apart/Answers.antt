@@ -3,7 +3,7 @@ use Rattle.std.specs.Prelude.{All}
 use Rattle.std.proofs.lemmas.Bool.{false≢true}
 use Rattle.qc_base.specs.declared.ids.Qubit.{Qubit}
 use Rattle.circuit_core.specs.Circuit.{qubit_count}
-use Rattle.trap_model.specs.declared.parts.ZonePart.{ZonePart}
+use Rattle.trap_parts.specs.declared.parts.ZonePart.{ZonePart}
 use Rattle.step_rules.specs.Placement.{reading_order}
 use Rattle.step_rules.proofs.Placements.{all_in_zone}
 use Rattle.schedule_text.proofs.Opening.{room_of, room_more, once_up_to, marked_up_to}

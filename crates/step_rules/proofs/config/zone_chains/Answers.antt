@@ -3,7 +3,7 @@ use Rattle.std.specs.Prelude.{slice_get}
 use Rattle.std.proofs.lemmas.Option.{slice_get_read}
 use Rattle.qc_base.specs.declared.ids.Qubit.{Qubit}
 use Rattle.trap_model.specs.Trap.{limit_of}
-use Rattle.trap_model.specs.declared.parts.ZonePart.{ZonePart}
+use Rattle.trap_parts.specs.declared.parts.ZonePart.{ZonePart}
 use Rattle.ion_chain.specs.ChainValue.{ChainValue, ions_of, room_of}
 use Rattle.step_rules.specs.Placement.{reading_order, ions_from, places_from}
 use Rattle.step_rules.specs.Config.{HaveRoom}

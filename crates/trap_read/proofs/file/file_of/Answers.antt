@@ -1,6 +1,6 @@
 use Rattle.std.proofs.lemmas.Result.{IfOk-at_ok}
-use Rattle.trap_model.specs.Trap.{names_of}
-use Rattle.trap_model.specs.Build.{AreNames}
+use Rattle.trap_parts.specs.Parts.{names_of}
+use Rattle.trap_parts.specs.Build.{AreNames}
 use Rattle.trap_read.proofs.Named.{parts_ok}
 use Rattle.trap_read.proofs.file.file_of.Goals as goal
 

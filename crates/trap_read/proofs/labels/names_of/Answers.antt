@@ -1,7 +1,7 @@
 use Rattle.std.proofs.Common.{List, ℕ, ◌<◌, ◌||◌, Bool, ap, sym, ◌∙◌, take, length, arith}
 use Rattle.std.specs.Str.{bytes_eq}
 use Rattle.std.proofs.lemmas.List.Folds.{list_any_more}
-use Rattle.trap_model.specs.declared.parts.ZonePart.{ZonePart}
+use Rattle.trap_parts.specs.declared.parts.ZonePart.{ZonePart}
 use Rattle.trap_read.specs.Labels.{has_name, is_zone}
 use Rattle.trap_read.proofs.Place.{has_name-added}
 use Rattle.trap_read.proofs.labels.names_of.Goals as goal

@@ -7,7 +7,7 @@ use Rattle.sat_base.specs.Truth.{Valuation, Satisfies}
 use Rattle.sat_base.specs.Valuation.{valuation_of}
 use Rattle.sat_base.proofs.Clauses.{NameOnly-weaken}
 use Rattle.circuit_core.specs.Circuit.{IsCircuit}
-use Rattle.trap_model.specs.Build.{IsTrap}
+use Rattle.trap_parts.specs.Build.{IsTrap}
 use Rattle.step_rules.specs.Setting.{SettingValue}
 use Rattle.step_vars.specs.declared.item.Claim.{Claim}
 use Rattle.step_vars.specs.declared.encoding.Encoding.{Encoding}

@@ -1,6 +1,6 @@
 use Rattle.std.proofs.Common.{◌≡◌, ℕ, ◌<◌, length, sym, ap, subst, ◌∙◌}
 use Rattle.std.specs.Prelude.{Option, IsSome}
-use Rattle.trap_model.specs.Trap.{TrapValue}
+use Rattle.trap_parts.specs.Parts.{TrapValue}
 use Rattle.trap_model.specs.Channels.{channels_of}
 use Rattle.greedy_router.specs.Routing.{MapValue}
 use Rattle.greedy_router.proofs.Routes.{route_begins}

@@ -1,5 +1,5 @@
 use Rattle.std.proofs.Common.{◌≡◌, ap, sym, subst, ◌∙◌}
-use Rattle.trap_model.specs.Trap.{TrapValue}
+use Rattle.trap_parts.specs.Parts.{TrapValue}
 use Rattle.step_rules.specs.Setting.{SettingValue}
 use Rattle.step_rules.specs.Config.{IsConfigOf}
 use Rattle.step_rules.specs.Guards.{PassesTransport}

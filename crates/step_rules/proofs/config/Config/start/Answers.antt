@@ -1,7 +1,8 @@
 use Rattle.std.proofs.Common.{◌≡◌, ℕ, ◌+◌, ◌-◌, ◌≤◌, List, [], ◌∷◌, ◌++◌, length, map, replicate, sym, ap, subst, ◌∙◌, arith, length-append}
 use Rattle.std.proofs.lemmas.List.{append-nil, length-map}
 use Rattle.qc_base.specs.declared.ids.Ion.{Ion}
-use Rattle.trap_model.specs.Trap.{limit_of, slot_count}
+use Rattle.trap_parts.specs.Parts.{slot_count}
+use Rattle.trap_model.specs.Trap.{limit_of}
 use Rattle.ion_chain.specs.ChainValue.{ChainValue, ions_of, room_of}
 use Rattle.step_rules.specs.Placement.{places_from}
 use Rattle.step_rules.specs.Config.{ConfigValue, HaveRoom}

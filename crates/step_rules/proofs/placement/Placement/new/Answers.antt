@@ -3,7 +3,7 @@ use Rattle.std.specs.Prelude.{All, option_map}
 use Rattle.qc_base.specs.declared.ids.Qubit.{Qubit}
 use Rattle.circuit_core.specs.Circuit.{qubit_count}
 use Rattle.trap_model.specs.Trap.{limit_of}
-use Rattle.trap_model.specs.declared.parts.ZonePart.{ZonePart}
+use Rattle.trap_parts.specs.declared.parts.ZonePart.{ZonePart}
 use Rattle.step_rules.specs.declared.placement.GivenFault.TheVariants.{Missing}
 use Rattle.step_rules.specs.Placement.{reading_order, unless_fault}
 use Rattle.step_rules.proofs.Placements.{limit_read, all_in_zone, marked_zone, clean_zone, answer_full, decided, is_placement, is_numbered}

@@ -1,4 +1,4 @@
-use Rattle.trap_model.specs.Trap.{lists}
+use Rattle.trap_parts.specs.Parts.{lists}
 use Rattle.trap_model.proofs.Within.{channels_within}
 use Rattle.trap_model.proofs.trap.Trap.channels.Goals as goal
 

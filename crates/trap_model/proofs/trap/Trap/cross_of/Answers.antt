@@ -1,5 +1,5 @@
 use Rattle.std.proofs.Common.{arith, sym, ◌∙◌, ◌≤◌, length}
-use Rattle.trap_model.specs.Trap.{lists}
+use Rattle.trap_parts.specs.Parts.{lists}
 use Rattle.trap_model.specs.Channels.{is_cross}
 use Rattle.trap_model.proofs.Count.{few_channels}
 use Rattle.trap_model.proofs.Crosses.{cross_leads, no_cross_channel}

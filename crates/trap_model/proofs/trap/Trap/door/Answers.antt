@@ -1,6 +1,6 @@
 use Rattle.std.proofs.Common.{arith, ap, ◌∙◌, length}
 use Rattle.trap_model.specs.declared.tables.Doors.{Doors}
-use Rattle.trap_model.specs.Trap.{lists}
+use Rattle.trap_parts.specs.Parts.{lists}
 use Rattle.trap_model.specs.Channels.{channels_of}
 use Rattle.trap_model.specs.Tables.{doors_of}
 use Rattle.trap_model.proofs.ReadTables.{table_length, table_read}

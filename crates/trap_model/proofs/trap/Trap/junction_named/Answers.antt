@@ -1,6 +1,6 @@
 use Rattle.std.proofs.Common.{arith, sym}
 use Rattle.std.specs.Str.{bytes_eq}
-use Rattle.trap_model.proofs.Known.{position_at}
+use Rattle.trap_parts.proofs.Known.{position_at}
 use Rattle.trap_model.proofs.trap.Trap.junction_named.Goals as goal
 
 pub overflow_cast-result : goal.overflow_cast-result

@@ -1,5 +1,5 @@
 use Rattle.std.proofs.Common.{arith, ap, ◌∙◌, length, ◌≡◌}
-use Rattle.trap_model.specs.Trap.{lists}
+use Rattle.trap_parts.specs.Parts.{lists}
 use Rattle.trap_model.proofs.Slots.{length-slots_from, slot_read, limit_of_slot}
 use Rattle.trap_model.proofs.trap.Trap.limit.Goals as goal
 

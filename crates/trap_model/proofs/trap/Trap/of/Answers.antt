@@ -1,5 +1,6 @@
 use Rattle.std.proofs.Common.{arith, ap, ◌∙◌, length, ◌≡◌, ◌+◌}
-use Rattle.trap_model.specs.Trap.{lists, place_count}
+use Rattle.trap_parts.specs.Parts.{lists}
+use Rattle.trap_model.specs.Trap.{place_count}
 use Rattle.trap_model.proofs.Count.{few_channels}
 use Rattle.trap_model.proofs.Slots.{length-slots_from}
 use Rattle.trap_model.proofs.trap.Trap.of.Goals as goal

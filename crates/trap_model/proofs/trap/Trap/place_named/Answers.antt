@@ -1,5 +1,5 @@
 use Rattle.std.proofs.Common.{arith, sym, ◌∙◌}
-use Rattle.trap_model.specs.Trap.{lists}
+use Rattle.trap_parts.specs.Parts.{lists}
 use Rattle.trap_model.proofs.PlaceTexts.{zone_found, named_is, slot_answer}
 use Rattle.trap_model.proofs.trap.Trap.place_named.Goals as goal
 

@@ -1,6 +1,7 @@
 use Rattle.std.proofs.Common.{arith, ap, ◌∙◌, length, ◌≡◌, ◌≤◌, ◌<◌, sym, append_assoc}
 use Rattle.std.proofs.lemmas.List.{append-nil}
-use Rattle.trap_model.specs.Trap.{lists, place_count}
+use Rattle.trap_parts.specs.Parts.{lists}
+use Rattle.trap_model.specs.Trap.{place_count}
 use Rattle.trap_model.proofs.Slots.{length-slots_from, slot_read}
 use Rattle.trap_model.proofs.PlaceTexts.{text_of_slot, text_past}
 use Rattle.trap_model.proofs.trap.Trap.push_place.Goals as goal

@@ -1,9 +1,9 @@
 use Rattle.std.proofs.Common.{arith, sym, ap, ◌+◌, length}
 use Rattle.std.specs.Str.{bytes_eq}
-use Rattle.trap_model.specs.declared.parts.SegmentPart.{SegmentPart}
-use Rattle.trap_model.specs.Trap.{lists}
-use Rattle.trap_model.specs.Joins.{first_slot}
-use Rattle.trap_model.proofs.Known.{position_at}
+use Rattle.trap_parts.specs.declared.parts.SegmentPart.{SegmentPart}
+use Rattle.trap_parts.specs.Parts.{lists}
+use Rattle.trap_parts.specs.Joins.{first_slot}
+use Rattle.trap_parts.proofs.Known.{position_at}
 use Rattle.trap_model.proofs.Rows.{length-firsts_from}
 use Rattle.trap_model.proofs.PlaceTexts.{no_slot_without_dot, no_slot_without_segment, no_slot_without_number, slot_found, slot_text_small, first_read}
 use Rattle.trap_model.proofs.trap.Trap.slot_named.Goals as goal
