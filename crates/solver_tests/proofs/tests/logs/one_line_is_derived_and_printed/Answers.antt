@@ -1,7 +1,7 @@
 use Rattle.std.proofs.Common.{◌≡◌, List, [], ◌∷◌, ◌++◌, ap, ◌∙◌}
 use Rattle.sat_base.specs.Literal.{Literal}
 use Rattle.derivation_log.specs.Log.{Lines, log_of}
-use Rattle.solver_tests.proofs.Small.{both, resolves}
+use Rattle.derivation_log.proofs.Small.{both, resolves}
 use Rattle.solver_tests.proofs.tests.logs.one_line_is_derived_and_printed.Goals as goal
 
 pub derive-requires-clause-resolves : goal.derive-requires-clause-resolves
