@@ -1,17 +1,13 @@
 -- How the lines that were accepted grow.
-use Rattle.std.proofs.Common.{◌≡◌, ℕ, zero, suc, ◌+◌, List, [], ◌∷◌, ◌++◌, length, sym, ap, ◌∙◌, subst, arith, append_assoc, length-append}
+use Rattle.std.proofs.Common.{◌≡◌, ℕ, suc, ◌+◌, List, [], ◌∷◌, ◌++◌, length, sym, ap, ◌∙◌, subst, arith, append_assoc, length-append}
 use Rattle.std.proofs.lemmas.List.{append-nil, length-map, map-append}
 use Rattle.qc_base.specs.Spelling.{IsFree}
 use Rattle.sat_base.specs.Literal.{Literal}
 use Rattle.sat_base.specs.Derivation.{Line, clauses_of, IsGood}
 use Rattle.sat_base.specs.Certificate.{line_text, lines_text, HasForm}
+use Rattle.certificate_lines.proofs.OneLine.{IsFree-append}
 use Rattle.derivation_check.specs.Faults.{Task, AreAccepted, Reads, number_after, HasMalformedLine, HasBadLine}
 use Rattle.derivation_check.specs.Progress.{Progress, Accepts}
-
-pub IsFree-append : (xs ys : List ℕ) → IsFree 10 xs → IsFree 10 ys → IsFree 10 (xs ++ ys)
-IsFree-append [] ys fx fy k d h = fy k d h
-IsFree-append (x ∷ xs) ys fx fy zero d h = fx 0 d (omega arith)
-IsFree-append (x ∷ xs) ys fx fy (suc k) d h = IsFree-append xs ys (λ k d h. fx (suc k) d (omega arith)) fy k d (omega arith)
 
 pub Reads-more : (task : Task) (bytes more : List ℕ) (lines : List Line) (rest : List ℕ) → Reads task bytes lines rest → Reads task (bytes ++ more) lines (rest ++ more)
 Reads-more task bytes more lines rest reads = record {

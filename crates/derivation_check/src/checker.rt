@@ -9,8 +9,7 @@ ghost use Rattle.derivation_check.specs.Faults.{Task, HasFault, Answers};
 ghost use Rattle.derivation_check.specs.Progress.{Accepts, WasFed, HasLineFault, KeepsRest, task_of};
 
 use crate::cert_fault::CertFault;
-use crate::judge::is_good;
-use crate::line::read_line;
+use certificate_lines::{is_good, read_line};
 use sat_base::{Formula, Lit, Resolution};
 use std::alloc::Global;
 use std::marker::Model;

@@ -1,0 +1,26 @@
+-- How a clause stands where some literals are true.
+use Rattle.std.specs.Prelude.{ℕ, ◌==◌, Bool, true, false, if◌then◌else◌, List, [], ◌∷◌}
+use Rattle.sat_base.specs.Literal.{Literal, negated}
+use Rattle.sat_base.specs.LitSet.{code_of}
+use Rattle.lrat_out.specs.declared.standing.Standing.{Standing}
+use Rattle.lrat_out.specs.declared.standing.Standing.TheVariants.{Holds, Fails, Unit as AUnit, Open}
+
+-- whether the literal is in the list
+abbrev pub is_in : List Literal → Literal → Bool
+is_in [] literal = false
+is_in (first ∷ rest) literal = if code_of first == code_of literal then true else is_in rest literal
+
+-- how a clause stands once an unassigned literal is added to it
+abbrev pub opened : Literal → Standing → Standing
+opened literal Holds = Holds
+opened literal Fails = AUnit literal
+opened literal (AUnit other) = Open
+opened literal Open = Open
+
+-- it holds where a literal of it is true; else all its literals are false, all but one, or fewer
+abbrev pub standing : List Literal → List Literal → Standing
+standing trues [] = Fails
+standing trues (literal ∷ rest) =
+    if is_in trues literal then Holds
+    else if is_in trues (negated literal) then standing trues rest
+    else opened literal (standing trues rest)
