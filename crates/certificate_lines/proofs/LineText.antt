@@ -4,7 +4,7 @@ use Rattle.std.specs.Prelude.{◌↔◌, IsTrue, IfSome, IsSomeAnd, codes, decim
 use Rattle.std.proofs.lemmas.List.{nil_from_length}
 use Rattle.std.proofs.lemmas.Bool.{eqb-true, eqb-false, ne_eqb, not-true, not_from_false}
 use Rattle.sat_base.specs.Derivation.{Line}
-use Rattle.sat_base.specs.Certificate.{literals_text, hints_text, line_text, HasForm}
+use Rattle.sat_base.specs.Certificate.{literals_text, hints_text, line_text}
 
 -- what stands after the number
 abbrev pub after_number : Line → List ℕ

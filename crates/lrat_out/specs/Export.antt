@@ -6,7 +6,7 @@ use Rattle.derivation_log.specs.declared.line_id.LineId.{LineId}
 use Rattle.derivation_log.specs.Log.{Derived, Lines, derived_id, clause_of}
 use Rattle.derivation_log.specs.Printing.{number_of}
 use Rattle.lrat_out.specs.declared.standing.Standing.{Standing}
-use Rattle.lrat_out.specs.declared.standing.Standing.TheVariants.{Holds, Fails, Unit as AUnit, Open}
+use Rattle.lrat_out.specs.declared.standing.Standing.TheVariants.{Holds, Fails, OneOpen, MoreOpen}
 use Rattle.lrat_out.specs.Lines.{ProofLine, Numbered}
 use Rattle.lrat_out.specs.Standing.{standing}
 
@@ -14,8 +14,8 @@ use Rattle.lrat_out.specs.Standing.{standing}
 abbrev pub kept : Standing → ℕ → (List Literal → List ℕ) → List Literal → List ℕ
 kept Holds number further trues = further trues
 kept Fails number further trues = number ∷ []
-kept (AUnit literal) number further trues = number ∷ further (trues ++ literal ∷ [])
-kept Open number further trues = number ∷ further trues
+kept (OneOpen literal) number further trues = number ∷ further (trues ++ literal ∷ [])
+kept MoreOpen number further trues = number ∷ further trues
 
 -- The numbers of the hints that are kept where these literals are true: a hint with a true literal is left out, one
 -- with one unassigned literal makes it true, and the list ends at the first whose literals are all false.

@@ -6,8 +6,8 @@ use Rattle.sat_base.specs.Fresh.{IsOpen}
 use Rattle.lrat_out.specs.Lines.{ProofLine, Hand, clause_named, after, HasForm}
 
 -- where these literals are true, all literals of the clause are false
-abbrev pub IsFalse : List Literal → List Literal → Type 0
-IsFalse trues clause = (literal : Literal) → Has clause literal → Has trues (negated literal)
+abbrev pub AreDenied : List Literal → List Literal → Type 0
+AreDenied trues clause = (literal : Literal) → Has clause literal → Has trues (negated literal)
 
 -- where these literals are true, one literal of the clause is unassigned, and all others are false
 pub record IsUnit (trues clause : List Literal) (unit : Literal) : Type 0 where
@@ -20,7 +20,7 @@ pub record IsUnit (trues clause : List Literal) (unit : Literal) : Type 0 where
 abbrev pub Propagates : List Literal → List (List Literal) → Type 0
 Propagates trues [] = ⊥
 Propagates trues (clause ∷ clauses) =
-    IsFalse trues clause
+    AreDenied trues clause
     ⊎ ((unit : Literal) × IsUnit trues clause unit × Propagates (trues ++ unit ∷ []) clauses)
 
 -- the line is right: with its literals assumed false, its hints propagate

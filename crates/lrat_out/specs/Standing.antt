@@ -3,7 +3,7 @@ use Rattle.std.specs.Prelude.{ℕ, ◌==◌, Bool, true, false, if◌then◌else
 use Rattle.sat_base.specs.Literal.{Literal, negated}
 use Rattle.sat_base.specs.LitSet.{code_of}
 use Rattle.lrat_out.specs.declared.standing.Standing.{Standing}
-use Rattle.lrat_out.specs.declared.standing.Standing.TheVariants.{Holds, Fails, Unit as AUnit, Open}
+use Rattle.lrat_out.specs.declared.standing.Standing.TheVariants.{Holds, Fails, OneOpen, MoreOpen}
 
 -- whether the literal is in the list
 abbrev pub is_in : List Literal → Literal → Bool
@@ -13,9 +13,9 @@ is_in (first ∷ rest) literal = if code_of first == code_of literal then true e
 -- how a clause stands once an unassigned literal is added to it
 abbrev pub opened : Literal → Standing → Standing
 opened literal Holds = Holds
-opened literal Fails = AUnit literal
-opened literal (AUnit other) = Open
-opened literal Open = Open
+opened literal Fails = OneOpen literal
+opened literal (OneOpen other) = MoreOpen
+opened literal MoreOpen = MoreOpen
 
 -- it holds where a literal of it is true; else all its literals are false, all but one, or fewer
 abbrev pub standing : List Literal → List Literal → Standing

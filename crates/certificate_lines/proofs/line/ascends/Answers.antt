@@ -1,4 +1,4 @@
-use Rattle.std.proofs.Common.{ℕ, ◌+◌, ◌<◌, drop, sym, ◌∙◌, subst, arith}
+use Rattle.std.proofs.Common.{ℕ, ◌+◌, ◌<◌, drop, sym, subst, arith}
 use Rattle.std.specs.Prelude.{◌↔◌}
 use Rattle.sat_base.specs.Derivation.{IsAscending}
 use Rattle.certificate_lines.proofs.Ascending.{AscendFrom, from_start, goes_on}

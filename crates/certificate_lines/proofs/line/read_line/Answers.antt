@@ -2,11 +2,9 @@ use Rattle.std.proofs.Common.{◌≤◌, ℕ, List, [], ◌++◌, length, sym, �
 use Rattle.std.specs.Prelude.{codes}
 use Rattle.std.proofs.lemmas.List.{append-nil}
 use Rattle.std.proofs.lemmas.Bool.{both_ways}
-use Rattle.sat_base.specs.Literal.{Literal}
 use Rattle.sat_base.specs.Clauses.{EachVariable}
 use Rattle.sat_base.specs.Certificate.{hints_text}
 use Rattle.sat_base.proofs.Clauses.{EachVariable-weaken}
-use Rattle.certificate_lines.specs.Items.{AreWithin}
 use Rattle.certificate_lines.proofs.LineText.{after_number, line_parts, at_found, at_some, at_none}
 use Rattle.certificate_lines.proofs.line.read_line.Goals as goal
 

@@ -1,0 +1,60 @@
+//! A formula of six clauses and its proof: exported, accepted, and edited.
+
+use crate::{LratFault, accept, dimacs};
+use sat_base::{Formula, Lit};
+use std::alloc::Global;
+use std::test::Fail;
+
+// The clauses 1, 2, 3, -4, -5 4 and 5.
+fn small_formula(alloc: Global) -> Result<Formula, Fail> {
+    let mut formula = Formula::new(alloc);
+    formula.push(&[Lit::new(1, true)])?;
+    formula.push(&[Lit::new(2, true)])?;
+    formula.push(&[Lit::new(3, true)])?;
+    formula.push(&[Lit::new(4, false)])?;
+    formula.push(&[Lit::new(5, false), Lit::new(4, true)])?;
+    formula.push(&[Lit::new(5, true)])?;
+    Ok(formula)
+}
+
+#[test]
+fn formula_in_dimacs(rt: HostRuntime) -> Result<(), Fail> {
+    let formula = small_formula(rt.alloc())?;
+    assert_eq!(rt;
+        dimacs(rt.alloc(), &formula, 5)?.as_slice(),
+        b"p cnf 5 6\n1 0\n2 0\n3 0\n-4 0\n-5 4 0\n5 0\n".as_slice()
+    );
+    Ok(())
+}
+
+#[test]
+fn judges_edited_proofs(rt: HostRuntime) -> Result<(), Fail> {
+    let formula = small_formula(rt.alloc())?;
+    let table = [
+        ("7 -5 0 4 5 0\n8 0 6 7 0\n", Ok(2)),
+        ("7 -5 0 5 4 0\n8 0 6 7 0\n", Ok(2)),
+        ("17 -5 0 5 4 0\n28 0 6 17 0\n", Ok(2)),
+        ("7 -5 0 5 0\n8 0 6 7 0\n", Err(LratFault::Hint { n: 1 })),
+        ("7 -5 0 4 5 0\n8 0 6 5 4 0\n", Ok(2)),
+        ("7 -5 0 4 5 0\n8 0 5 6 4 0\n", Err(LratFault::Hint { n: 2 })),
+        ("7 -5 0 4 5 0\n", Err(LratFault::NoEmpty)),
+        ("", Err(LratFault::NoEmpty)),
+        ("7 -5 0 0\n", Err(LratFault::Hint { n: 1 })),
+        ("6 -5 0 4 5 0\n8 0 6 7 0\n", Err(LratFault::Line { n: 1 })),
+        ("7 -5 0 4 5 0\n7 0 6 7 0\n", Err(LratFault::Line { n: 2 })),
+        ("7 -5 0 4 5 7 0\n", Err(LratFault::Line { n: 1 })),
+        ("7 -5 0 4 5 0 0\n", Err(LratFault::Line { n: 1 })),
+        ("7 -5 0 4 5 -1 0\n", Err(LratFault::Line { n: 1 })),
+        ("7 -5 5 0 4 5 0\n", Err(LratFault::Line { n: 1 })),
+        ("7 -6 0 4 5 0\n", Err(LratFault::Line { n: 1 })),
+        ("7 -5 0 4 5 0", Err(LratFault::Line { n: 1 })),
+        ("7 d 1 0\n", Err(LratFault::Line { n: 1 })),
+        ("7 -5 0 4 5 0\n8 0 6 7 0\n9 0 9 0\n", Err(LratFault::Line { n: 3 })),
+        ("7 -5 0 4 5 0\n8 0 6 7 0\n9 0 4 0\n", Err(LratFault::Hint { n: 3 })),
+    ];
+    for (text, wanted) in table {
+        let got = accept(rt.alloc(), &formula, 5, text.as_bytes());
+        assert_eq!(rt; got, wanted, "{text:?}");
+    }
+    Ok(())
+}
