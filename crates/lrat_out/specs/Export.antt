@@ -36,7 +36,7 @@ abbrev pub proof_line : Lines → ℕ → Derived → ProofLine
 proof_line log k line = record {
   number = length log.axioms + 1 + k;
   clause = line.clause;
-  hints = thin (map negated line.clause) (map (hint_of log) (reverse line.hints));
+  hints = thin (map negated line.clause) (reverse (map (hint_of log) line.hints));
 }
 
 -- derived lines, counted on from that number
@@ -50,7 +50,7 @@ closing_lines axioms last [] = []
 closing_lines axioms last (literal ∷ rest) = record {
   number = axioms + 1 + last + 1;
   clause = [];
-  hints = axioms + 1 ∷ axioms + 1 + last ∷ [];
+  hints = (axioms + 1) ∷ (axioms + 1 + last) ∷ [];
 } ∷ []
 
 -- the derived lines up to the last one, and the empty clause

@@ -1,6 +1,6 @@
 -- The lines of LRAT, their text, and which lines have the form (Cruz-Filipe, Heule, Hunt, Kaufmann, Schneider-Kamp:
 -- Efficient certified RAT verification, CADE 2017). Lines that delete, hints below 0 and comments are left out.
-use Rattle.std.specs.Prelude.{◌≡◌, ℕ, ◌<◌, ◌<=◌, ◌≤◌, ◌^◌, ◌==◌, if◌then◌else◌, ◌⊎◌, List, [], ◌∷◌, ◌++◌, length, All}
+use Rattle.std.specs.Prelude.{◌≡◌, ℕ, ◌<◌, ◌≤◌, ◌^◌, ◌==◌, nat_le, ◌&&◌, if◌then◌else◌, ◌⊎◌, List, [], ◌∷◌, ◌++◌, length, All}
 use Rattle.std.specs.List.{flat_map}
 use Rattle.sat_base.specs.Literal.{Literal}
 use Rattle.sat_base.specs.Clauses.{EachVariable, HasDistinctVariables, clause_at}
@@ -63,7 +63,8 @@ IsNumber hand number = ((1 ≤ number) × (number ≤ length hand.formula)) ⊎ 
 -- the clause of that number
 abbrev pub clause_named : Hand → ℕ → List Literal
 clause_named hand number =
-    if number <= length hand.formula then clause_at hand.formula number else clause_in hand.lines number
+    if nat_le 1 number && nat_le number (length hand.formula) then clause_at hand.formula number
+    else clause_in hand.lines number
 
 -- the last number of the lines; the one given where there is no line
 abbrev pub last_of : ℕ → List Numbered → ℕ

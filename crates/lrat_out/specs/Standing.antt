@@ -24,3 +24,13 @@ standing trues (literal ∷ rest) =
     if is_in trues literal then Holds
     else if is_in trues (negated literal) then standing trues rest
     else opened literal (standing trues rest)
+
+-- how a clause stands that begins with literals of the one standing, none of them true, and goes on with the other
+abbrev pub merged : Standing → Standing → Standing
+merged Holds other = Holds
+merged Fails other = other
+merged (OneOpen literal) other = opened literal other
+merged MoreOpen Holds = Holds
+merged MoreOpen Fails = MoreOpen
+merged MoreOpen (OneOpen literal) = MoreOpen
+merged MoreOpen MoreOpen = MoreOpen

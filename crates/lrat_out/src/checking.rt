@@ -1,6 +1,6 @@
 //! The checker of LRAT.
 
-ghost use Rattle.std.specs.Prelude.{◌<◌, ◌^◌, IfOk, IfErr, OnOk};
+ghost use Rattle.std.specs.Prelude.{◌<◌, ◌^◌, ◌↔◌, ◌⊎◌, IsTrue, IfOk, IfErr, OnOk};
 ghost use Rattle.sat_base.specs.Truth.{Valuation, Satisfies};
 ghost use Rattle.lrat_out.specs.Faults.{task_of, Answers};
 ghost use Rattle.lrat_out.specs.Proof.{TakesLine, HasFaultAt};
@@ -19,6 +19,13 @@ struct Judge {
     trues: LitSet,
     lits: Vec<Lit>,
     hints: Vec<u64>,
+}
+
+// Whether one of the two holds.
+fn either(first: bool, second: bool) -> bool
+    ensures { IsTrue result ↔ (IsTrue first ⊎ IsTrue second) }
+{
+    first || second
 }
 
 // Takes the line that the bytes begin with; what comes after it, and whether its clause is empty.
@@ -71,9 +78,7 @@ pub fn accept(alloc: Global, formula: &Formula, vars: u32, text: &[u8]) -> Resul
         let (after, empty) = take_line(&mut proof, &mut judge, vars, rest, count + 1)?;
         rest = after;
         count += 1;
-        if empty {
-            closed = true;
-        }
+        closed = either(closed, empty);
     }
     if closed {
         Ok(count)

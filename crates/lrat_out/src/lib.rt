@@ -3,6 +3,7 @@
 
 mod checking;
 mod formula_text;
+mod laws;
 mod proof_text;
 mod lrat_fault;
 mod proof;
@@ -14,5 +15,8 @@ mod tests;
 
 pub use checking::accept;
 pub use formula_text::dimacs;
+pub use laws::{
+    a_proof_leaves_no_model, exported_lines_are_accepted, exported_text_is_a_proof,
+};
 pub use proof_text::lrat;
 pub use lrat_fault::LratFault;

@@ -1,6 +1,6 @@
 //! Derivations in LRAT.
 
-ghost use Rattle.std.specs.Prelude.{◌≡◌, ◌≤◌, ◌<◌, ◌+◌, ◌^◌, ◌++◌, ◌∷◌, [], map, reverse, length, All, OnOk, IfOk};
+ghost use Rattle.std.specs.Prelude.{◌≡◌, ◌≤◌, ◌<◌, ◌+◌, ◌^◌, ◌++◌, map, reverse, length, All, OnOk, IfOk, codes, decimal};
 ghost use Rattle.sat_base.specs.Literal.{positive_of};
 ghost use Rattle.sat_base.specs.Derivation.{Refutes};
 ghost use Rattle.sat_base.specs.Certificate.{hints_text};
@@ -20,7 +20,7 @@ use std::alloc::Global;
 
 // Appends a number and a space.
 fn push_word(out: &mut Vec<u8>, number: u64) -> Result<(), NoMemory>
-    ensures { OnOk result (out.new.items ≡ out.old.items ++ hints_text (number ∷ [])) }
+    ensures { OnOk result (out.new.items ≡ out.old.items ++ (decimal number ++ codes " ")) }
 {
     push_number(out, number)?;
     out.extend_from_slice(b" ")?;
@@ -49,22 +49,25 @@ fn push_hints(
     requires named { All (IsLine log.now) hints.now }
     requires fit { NumbersFit log.now hints.now }
     ensures { OnOk result (out.new.items
-        ≡ out.old.items ++ hints_text (thin trues.old (map (hint_of log.now) (reverse hints.now)))) }
+        ≡ out.old.items ++ hints_text (thin trues.old (reverse (map (hint_of log.now) hints.now)))) }
 {
     let clauses = log.axioms() + 1;
     let mut left = hints;
     while let Some((hint, before)) = left.split_last() {
+        let number = number_after(clauses, *hint);
+        match standing_of(trues, log.clause(*hint)) {
+            Standing::Holds => {}
+            Standing::Fails => {
+                push_word(out, number)?;
+                return Ok(());
+            }
+            Standing::OneOpen(lit) => {
+                push_word(out, number)?;
+                trues.insert(lit)?;
+            }
+            Standing::MoreOpen => push_word(out, number)?,
+        }
         left = before;
-        let stands = standing_of(trues, log.clause(*hint));
-        if stands == Standing::Holds {
-            continue;
-        }
-        push_word(out, number_after(clauses, *hint))?;
-        match stands {
-            Standing::Fails => return Ok(()),
-            Standing::OneOpen(lit) => trues.insert(lit)?,
-            _ => {}
-        }
     }
     Ok(())
 }

@@ -1,7 +1,8 @@
 //! How a clause stands where some literals are true.
 
 ghost use Rattle.std.specs.Prelude.{◌≡◌};
-ghost use Rattle.lrat_out.specs.Standing.{standing};
+ghost use Rattle.lrat_out.specs.declared.standing.Standing.TheVariants.{OneOpen as AOneOpen};
+ghost use Rattle.lrat_out.specs.Standing.{standing, merged};
 
 use sat_base::{Lit, LitSet};
 
@@ -35,7 +36,9 @@ pub fn standing_of(trues: &LitSet, clause: &[Lit]) -> Standing
 }
 
 // What comes of it with one unassigned literal more.
-fn with_open(so_far: Standing, lit: Lit) -> Standing {
+fn with_open(so_far: Standing, lit: Lit) -> Standing
+    ensures { result ≡ merged so_far (AOneOpen lit) }
+{
     match so_far {
         Standing::Holds => Standing::Holds,
         Standing::Fails => Standing::OneOpen(lit),
