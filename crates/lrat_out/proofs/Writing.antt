@@ -1,21 +1,21 @@
 -- The text of a proof, written part by part.
-use Rattle.std.proofs.Common.{◌≡◌, ◌≢◌, ℕ, zero, suc, ◌+◌, ◌<◌, ◌≤◌, List, [], ◌∷◌, ◌++◌, length, map, take, get_or, slice_index_or, refl, sym, ap, ◌∙◌, subst, arith, append_assoc, length-append}
+use Rattle.std.proofs.Common.{◌≡◌, ◌≢◌, ℕ, zero, suc, ◌+◌, ◌-◌, ◌<◌, ◌≤◌, ◌^◌, Bool, true, false, cond, List, [], ◌∷◌, ◌++◌, length, map, take, get_or, slice_index_or, refl, sym, ap, ◌∙◌, subst, arith, append_assoc, length-append}
 use Rattle.std.specs.Prelude.{All, reverse, decimal, codes}
 use Rattle.std.specs.List.{flat_map}
 use Rattle.std.proofs.lemmas.List.{append-nil, map-append, reverse-append, take_more, get_or_append_left, get_or_at, length-take-le}
 use Rattle.sat_base.specs.Literal.{Literal, negated}
 use Rattle.sat_base.specs.Certificate.{literals_text, hints_text, line_text}
 use Rattle.derivation_log.specs.declared.line_id.LineId.{LineId}
-use Rattle.derivation_log.specs.Log.{Derived, Lines, derived_id, clause_of, hints_of}
+use Rattle.derivation_log.specs.Log.{Derived, Lines, log_of, derived_id, IsLine, IsSound, clause_of, hints_of}
 use Rattle.derivation_log.specs.Printing.{number_of}
-use Rattle.derivation_log.proofs.Texts.{no_line, at, clause_at_index, hints_at_index}
+use Rattle.derivation_log.proofs.Texts.{no_line, at, clause_at_index, hints_at_index, follows_at}
 use Rattle.lrat_out.specs.declared.standing.Standing.{Standing}
 use Rattle.lrat_out.specs.declared.standing.Standing.TheVariants.{Holds, Fails, OneOpen, MoreOpen}
 use Rattle.lrat_out.specs.Dimacs.{clause_text, problem_text}
 use Rattle.lrat_out.specs.Lines.{ProofLine, Numbered, proof_line_text, lrat_text}
 use Rattle.lrat_out.specs.Standing.{standing}
-use Rattle.lrat_out.specs.Export.{kept, thin, hint_of, proof_line, proof_lines_from}
-use Rattle.lrat_out.specs.Proof.{derived_text}
+use Rattle.lrat_out.specs.Export.{kept, thin, hint_of, proof_line, proof_lines_from, closing_lines}
+use Rattle.lrat_out.specs.Proof.{derived_text, NumbersFit}
 
 -- ---- texts of members, one more
 
@@ -113,3 +113,55 @@ line_more log k out new within so_far more =
 pub text_append : (a b : List ProofLine) → lrat_text (a ++ b) ≡ lrat_text a ++ lrat_text b
 text_append [] b = refl
 text_append (line ∷ a) b = ap (λ (text : List ℕ). proof_line_text line ++ text) (text_append a b) ∙ sym (append_assoc (proof_line_text line) (lrat_text a) (lrat_text b))
+
+-- the line of the empty clause was written
+pub closing_written : (a b c d e f : List ℕ) (axioms last : ℕ) (clause : List Literal) → (clause ≡ [] → ⊥) → b ≡ a ++ (decimal (axioms + 1 + last + 1) ++ codes " ") → c ≡ b ++ codes "0 " → d ≡ c ++ (decimal (axioms + 1) ++ codes " ") → e ≡ d ++ (decimal (axioms + 1 + last) ++ codes " ") → f ≡ e ++ codes "0\n"
+    → f ≡ a ++ lrat_text (closing_lines axioms last clause)
+closing_written a b c d e f axioms last [] some p q r s t = absurd (some refl)
+closing_written a b c d e f axioms last (literal ∷ rest) some p q r s t =
+    parts a b c d e f (decimal (axioms + 1 + last + 1)) (codes " ") (codes "0 ") (decimal (axioms + 1)) (decimal (axioms + 1 + last)) (codes "0\n") p q r s t
+  where
+    parts : (a b c d e f u v w x y z : List ℕ) → b ≡ a ++ (u ++ v) → c ≡ b ++ w → d ≡ c ++ (x ++ v) → e ≡ d ++ (y ++ v) → f ≡ e ++ z → f ≡ a ++ ((u ++ v ++ [] ++ w ++ ((x ++ v) ++ ((y ++ v) ++ [])) ++ z) ++ [])
+    parts a b c d e f u v w x y z p q r s t = simp (t, s, r, q, p, append_assoc, append-nil)
+
+-- ---- the hints of a derived line
+
+in_log : (axioms derived before : ℕ) (is_derived : Bool) (number : ℕ) → before ≤ derived → number ≤ cond is_derived before axioms → number ≤ cond is_derived derived axioms
+in_log axioms derived before true number fewer within = omega arith
+in_log axioms derived before false number fewer within = within
+
+fits_after : (axioms k : ℕ) (is_derived : Bool) (number : ℕ) → axioms + 1 + (k + 1) < 2 ^ 64 → number ≤ cond is_derived k axioms → cond is_derived (axioms + 1 + number) number < 2 ^ 64
+fits_after axioms k true number fits within = omega arith
+fits_after axioms k false number fits within = omega arith
+
+named_by_index : (log : Lines) (k : ℕ) → IsSound log → k < length log.derived → All (IsLine log) (hints_of log (derived_id (k + 1)))
+named_by_index log k sound within =
+    let follows = follows_at log.axioms [] log.derived k sound.sound within in
+    let taken : length (take k log.derived) ≡ k = length-take-le k log.derived (omega arith) in
+    subst (All (IsLine log)) (sym (hints_at_index log k within)) (λ j d h.
+    let hint = slice_index_or (at log.derived k).hints j d in
+    let named = follows.named j d h in
+    record { counted = named.counted; within = in_log (length log.axioms) (length log.derived) (length (take k log.derived)) hint.derived hint.number (omega arith) named.within })
+
+fit_by_index : (log : Lines) (k : ℕ) → IsSound log → k < length log.derived → length log.axioms + 1 + (k + 1) < 2 ^ 64 → NumbersFit log (hints_of log (derived_id (k + 1)))
+fit_by_index log k sound within fits =
+    let follows = follows_at log.axioms [] log.derived k sound.sound within in
+    let taken : length (take k log.derived) ≡ k = length-take-le k log.derived (omega arith) in
+    subst (NumbersFit log) (sym (hints_at_index log k within)) (λ j d h.
+    let hint = slice_index_or (at log.derived k).hints j d in
+    let named = follows.named j d h in
+    fits_after (length log.axioms) k hint.derived hint.number fits (subst (λ (n : ℕ). hint.number ≤ cond hint.derived n (length log.axioms)) taken named.within))
+
+pub hints_named : (log : Lines) (number : ℕ) → IsSound log → IsLine log (derived_id number) → All (IsLine log) (hints_of log (derived_id number))
+hints_named log number sound line =
+    let low = line.counted in
+    let high = line.within in
+    let e : number - 1 + 1 ≡ number = omega arith in
+    subst (λ (n : ℕ). All (IsLine log) (hints_of log (derived_id n))) e (named_by_index log (number - 1) sound (omega arith))
+
+pub hints_fit : (log : Lines) (number : ℕ) → IsSound log → IsLine log (derived_id number) → length log.axioms + 1 + number < 2 ^ 64 → NumbersFit log (hints_of log (derived_id number))
+hints_fit log number sound line fits =
+    let low = line.counted in
+    let high = line.within in
+    let e : number - 1 + 1 ≡ number = omega arith in
+    subst (λ (n : ℕ). NumbersFit log (hints_of log (derived_id n))) e (fit_by_index log (number - 1) sound (omega arith) (omega arith))

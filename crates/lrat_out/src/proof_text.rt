@@ -46,6 +46,7 @@ fn push_hints(
     log: &Log,
     hints: &[LineId],
 ) -> Result<(), NoMemory>
+    requires clauses { length log.now.axioms + 1 < 2 ^ 64 }
     requires named { All (IsLine log.now) hints.now }
     requires fit { NumbersFit log.now hints.now }
     ensures { OnOk result (out.new.items

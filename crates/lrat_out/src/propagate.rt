@@ -23,7 +23,8 @@ pub fn propagates(proof: &Proof, trues: &mut LitSet, hints: &[u64]) -> Result<bo
         match standing_of(trues, clause) {
             Standing::Fails => return Ok(true),
             Standing::OneOpen(lit) => trues.insert(lit)?,
-            Standing::Holds | Standing::MoreOpen => return Ok(false),
+            Standing::Holds => return Ok(false),
+            Standing::MoreOpen => return Ok(false),
         }
     }
     Ok(false)

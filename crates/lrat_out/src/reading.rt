@@ -36,9 +36,9 @@ fn all_named(proof: &Proof, hints: &[u64]) -> bool
     ensures { IsTrue result ↔ All (IsNumber proof.now) hints.now }
 {
     for &hint in hints {
-        if proof.clause_of(hint).is_none() {
+        let Some(_) = proof.clause_of(hint) else {
             return false;
-        }
+        };
     }
     true
 }
