@@ -79,7 +79,7 @@ free_word vars number line few small form =
 
 -- ---- one number, one literal
 
-same_number : (a b : ℕ) (x y : List ℕ) → a < 2 ^ 64 → b < 2 ^ 64 → decimal a ++ 32 ∷ x ≡ decimal b ++ 32 ∷ y → (a ≡ b) × (x ≡ y)
+pub same_number : (a b : ℕ) (x y : List ℕ) → a < 2 ^ 64 → b < 2 ^ 64 → decimal a ++ 32 ∷ x ≡ decimal b ++ 32 ∷ y → (a ≡ b) × (x ≡ y)
 same_number a b x y small also e =
     let words = word_before 32 (decimal a) (decimal b) x y (free_decimal 32 a (inl (omega arith)) small) (free_decimal 32 b (inl (omega arith)) also) e in
     (decimal_injective a b small also words.0, words.1)
@@ -100,7 +100,7 @@ same_literal a b x y above over small also e =
 one_more_literal : (literal : Literal) (clause : List Literal) (x : List ℕ) → literals_text (literal ∷ clause) ++ x ≡ literal_word (Some literal) ++ (literals_text clause ++ x)
 one_more_literal literal clause x = append_assoc (literal_word (Some literal)) (literals_text clause) x
 
-same_clause : (vars : ℕ) (a b : List Literal) (x y : List ℕ) → vars < 2 ^ 31 → Within vars a → Within vars b → literals_text a ++ (codes "0 " ++ x) ≡ literals_text b ++ (codes "0 " ++ y) → (a ≡ b) × (x ≡ y)
+pub same_clause : (vars : ℕ) (a b : List Literal) (x y : List ℕ) → vars < 2 ^ 31 → Within vars a → Within vars b → literals_text a ++ (codes "0 " ++ x) ≡ literals_text b ++ (codes "0 " ++ y) → (a ≡ b) × (x ≡ y)
 same_clause vars [] [] x y few within also e = (refl, append_cancel_left (codes "0 ") x y e)
 same_clause vars [] (m ∷ b) x y few within also e =
     absurd (none-some m (end_of_literals vars (Some m) (codes "0 " ++ x) x (literals_text b ++ (codes "0 " ++ y)) few refl (let low = also.0.0 in (omega arith, also.0.1)) (e ∙ one_more_literal m b (codes "0 " ++ y))).0)
@@ -118,7 +118,7 @@ one_more_hint hint hints x = append_assoc (hint_word (Some hint)) (hints_text hi
 spaced : (hint : ℕ) (x : List ℕ) → hint_word (Some hint) ++ x ≡ decimal hint ++ 32 ∷ x
 spaced hint x = append_assoc (decimal hint) (codes " ") x
 
-same_hints : (number : ℕ) (a b x y : List ℕ) → number < 2 ^ 64 → AreHints number a → AreHints number b → hints_text a ++ (codes "0\n" ++ x) ≡ hints_text b ++ (codes "0\n" ++ y) → (a ≡ b) × (x ≡ y)
+pub same_hints : (number : ℕ) (a b x y : List ℕ) → number < 2 ^ 64 → AreHints number a → AreHints number b → hints_text a ++ (codes "0\n" ++ x) ≡ hints_text b ++ (codes "0\n" ++ y) → (a ≡ b) × (x ≡ y)
 same_hints number [] [] x y small are also e = (refl, append_cancel_left (codes "0\n") x y e)
 same_hints number [] (m ∷ b) x y small are also e =
     absurd (none-some m (end_of_hints number (Some m) (codes "0\n" ++ x) x (hints_text b ++ (codes "0\n" ++ y)) small refl (also 0 0 (omega arith)) (e ∙ one_more_hint m b (codes "0\n" ++ y))).0)
@@ -136,7 +136,7 @@ same_hints number (l ∷ a) (m ∷ b) x y small are also e =
 opened : (a b c d e f x : List ℕ) → (a ++ b ++ c ++ d ++ e ++ f) ++ x ≡ (a ++ b) ++ (c ++ (d ++ (e ++ (f ++ x))))
 opened a b c d e f x = simp append_assoc
 
-line_opened : (number : ℕ) (line : Line) (x : List ℕ) → line_text number line ++ x ≡ (decimal number ++ codes " ") ++ (literals_text line.clause ++ (codes "0 " ++ (hints_text line.hints ++ (codes "0\n" ++ x))))
+pub line_opened : (number : ℕ) (line : Line) (x : List ℕ) → line_text number line ++ x ≡ (decimal number ++ codes " ") ++ (literals_text line.clause ++ (codes "0 " ++ (hints_text line.hints ++ (codes "0\n" ++ x))))
 line_opened number line x = opened (decimal number) (codes " ") (literals_text line.clause) (codes "0 ") (hints_text line.hints) (codes "0\n") x
 
 pub same_line : (vars number : ℕ) (a b : Line) (x y : List ℕ) → vars < 2 ^ 31 → number < 2 ^ 64 → HasForm vars number a → HasForm vars number b → line_text number a ++ x ≡ line_text number b ++ y → (a ≡ b) × (x ≡ y)
