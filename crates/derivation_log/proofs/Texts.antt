@@ -58,7 +58,7 @@ head_printed out old head rest whole is parts = rw is (append_assoc old head res
 
 -- ---- the numbers of hints
 
-follows_at : (axioms : List (List Literal)) (before lines : List Derived) (k : ℕ) → AreSound axioms before lines → k < length lines → Follows (log_of axioms (before ++ take k lines)) (at lines k)
+pub follows_at : (axioms : List (List Literal)) (before lines : List Derived) (k : ℕ) → AreSound axioms before lines → k < length lines → Follows (log_of axioms (before ++ take k lines)) (at lines k)
 follows_at axioms before [] k sound within = absurd (omega arith)
 follows_at axioms before (line ∷ lines) zero sound within = subst (λ (xs : List Derived). Follows (log_of axioms xs) line) (sym (append_none before)) sound.0
   where
