@@ -5,3 +5,5 @@ pub mod Literals
 pub mod LineText
 pub mod OneLine
 pub mod Ascending
+pub mod Refuting
+pub mod Lines

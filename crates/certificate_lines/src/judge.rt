@@ -3,7 +3,7 @@
 ghost use Rattle.std.specs.Prelude.{◌≤◌, ◌<◌, ◌+◌, ◌↔◌, IsTrue, IfOk, All, length, map};
 ghost use Rattle.sat_base.specs.Clauses.{HasDistinctVariables, clause_at};
 ghost use Rattle.sat_base.specs.Resolution.{ResolveTo};
-ghost use Rattle.sat_base.specs.Derivation.{IsGood};
+ghost use Rattle.sat_base.specs.Derivation.{IsGood, Refutes};
 ghost use Rattle.certificate_lines.specs.Items.{line_of};
 
 use qc_base::NoMemory;
@@ -47,4 +47,17 @@ pub fn is_good(
         return Ok(false);
     }
     resolves(resolution, formula, clause, hints)
+}
+
+/// Whether a clause has no literal other than the negated goal.
+pub fn refutes(clause: &[Lit], goal: Lit) -> bool
+    ensures { IsTrue result ↔ Refutes goal clause.now }
+{
+    let negated = goal.negated();
+    for &lit in clause {
+        if lit != negated {
+            return false;
+        }
+    }
+    true
 }

@@ -6,5 +6,5 @@ mod judge;
 mod line;
 
 pub use items::{read_hints, read_literals};
-pub use judge::is_good;
+pub use judge::{is_good, refutes};
 pub use line::read_line;

@@ -2,8 +2,10 @@
 #![tactic(auto)]
 
 mod derived_lines;
+mod from_text;
 mod laws;
 mod line_id;
+mod lines_fault;
 mod log;
 mod printer;
 #[cfg(test)]
@@ -12,5 +14,6 @@ mod words;
 
 pub use laws::{first_lines_are_derived, first_lines_are_good};
 pub use line_id::LineId;
+pub use lines_fault::LinesFault;
 pub use log::Log;
 pub use printer::Printer;
