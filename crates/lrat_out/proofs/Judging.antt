@@ -46,13 +46,13 @@ stands_as trues clause s distinct is = subst (Stands trues clause) (sym is) (sta
 
 pub fails : (hand : Hand) (hints : List ℕ) (old trues : List Literal) (k d hint : ℕ) (clause : List Literal) (s : Standing) → k < length hints → hint ≡ get_or hints k d → clause ≡ clause_named hand hint → HasDistinctVariables clause → s ≡ standing trues clause → s ≡ Fails
     → SameFrom hand hints old k trues → Propagates old (map (clause_named hand) hints)
-fails hand hints old trues k d hint clause s within is named distinct stands_is fails same =
-    same.1 (subst (Propagates trues) (sym (next hand hints k d hint clause within is named)) (fails_here trues clause (drop (k + 1) (map (clause_named hand) hints)) (stands_as trues clause Fails distinct (sym fails ∙ stands_is))))
+fails hand hints old trues k d hint clause s within is named distinct stands_is all same =
+    same.1 (subst (Propagates trues) (sym (next hand hints k d hint clause within is named)) (fails_here trues clause (drop (k + 1) (map (clause_named hand) hints)) (stands_as trues clause Fails distinct (sym all ∙ stands_is))))
 
 pub holds : (hand : Hand) (hints : List ℕ) (old trues : List Literal) (k d hint : ℕ) (clause : List Literal) (s : Standing) → k < length hints → hint ≡ get_or hints k d → clause ≡ clause_named hand hint → HasDistinctVariables clause → s ≡ standing trues clause → s ≡ Holds → IsConsistent trues
     → SameFrom hand hints old k trues → Propagates old (map (clause_named hand) hints) → ⊥
-holds hand hints old trues k d hint clause s within is named distinct stands_is holds consistent same propagates =
-    holds_here trues clause (drop (k + 1) (map (clause_named hand) hints)) consistent (stands_as trues clause Holds distinct (sym holds ∙ stands_is)) (subst (Propagates trues) (next hand hints k d hint clause within is named) (same.0 propagates))
+holds hand hints old trues k d hint clause s within is named distinct stands_is one consistent same propagates =
+    holds_here trues clause (drop (k + 1) (map (clause_named hand) hints)) consistent (stands_as trues clause Holds distinct (sym one ∙ stands_is)) (subst (Propagates trues) (next hand hints k d hint clause within is named) (same.0 propagates))
 
 pub more_open : (hand : Hand) (hints : List ℕ) (old trues : List Literal) (k d hint : ℕ) (clause : List Literal) (s : Standing) → k < length hints → hint ≡ get_or hints k d → clause ≡ clause_named hand hint → HasDistinctVariables clause → s ≡ standing trues clause → s ≡ MoreOpen
     → SameFrom hand hints old k trues → Propagates old (map (clause_named hand) hints) → ⊥

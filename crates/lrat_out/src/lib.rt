@@ -4,9 +4,9 @@
 mod checking;
 mod formula_text;
 mod laws;
-mod proof_text;
 mod lrat_fault;
 mod proof;
+mod proof_text;
 mod propagate;
 mod reading;
 mod standing;
@@ -15,8 +15,6 @@ mod tests;
 
 pub use checking::accept;
 pub use formula_text::dimacs;
-pub use laws::{
-    a_proof_leaves_no_model, exported_lines_are_accepted, exported_text_is_a_proof,
-};
-pub use proof_text::lrat;
+pub use laws::{a_proof_leaves_no_model, exported_lines_are_accepted, exported_text_is_a_proof};
 pub use lrat_fault::LratFault;
+pub use proof_text::lrat;

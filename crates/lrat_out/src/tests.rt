@@ -1,18 +1,25 @@
 //! A formula of six clauses and its proof: exported, accepted, and edited.
 
-use crate::{LratFault, accept, dimacs};
+use crate::{LratFault, accept, dimacs, lrat};
+use derivation_log::Log;
 use sat_base::{Formula, Lit};
 use std::alloc::Global;
 use std::test::Fail;
 
-// The clauses 1, 2, 3, -4, -5 4 and 5.
-fn small_formula(alloc: Global) -> Result<Formula, Fail> {
+// The clauses 1, 2, 3, -4 and -5 4.
+fn axioms(alloc: Global) -> Result<Formula, Fail> {
     let mut formula = Formula::new(alloc);
     formula.push(&[Lit::new(1, true)])?;
     formula.push(&[Lit::new(2, true)])?;
     formula.push(&[Lit::new(3, true)])?;
     formula.push(&[Lit::new(4, false)])?;
     formula.push(&[Lit::new(5, false), Lit::new(4, true)])?;
+    Ok(formula)
+}
+
+// The same, and the clause 5.
+fn small_formula(alloc: Global) -> Result<Formula, Fail> {
+    let mut formula = axioms(alloc)?;
     formula.push(&[Lit::new(5, true)])?;
     Ok(formula)
 }
@@ -49,12 +56,40 @@ fn judges_edited_proofs(rt: HostRuntime) -> Result<(), Fail> {
         ("7 -6 0 4 5 0\n", Err(LratFault::Line { n: 1 })),
         ("7 -5 0 4 5 0", Err(LratFault::Line { n: 1 })),
         ("7 d 1 0\n", Err(LratFault::Line { n: 1 })),
-        ("7 -5 0 4 5 0\n8 0 6 7 0\n9 0 9 0\n", Err(LratFault::Line { n: 3 })),
-        ("7 -5 0 4 5 0\n8 0 6 7 0\n9 0 4 0\n", Err(LratFault::Hint { n: 3 })),
+        (
+            "7 -5 0 4 5 0\n8 0 6 7 0\n9 0 9 0\n",
+            Err(LratFault::Line { n: 3 }),
+        ),
+        (
+            "7 -5 0 4 5 0\n8 0 6 7 0\n9 0 4 0\n",
+            Err(LratFault::Hint { n: 3 }),
+        ),
     ];
     for (text, wanted) in table {
         let got = accept(rt.alloc(), &formula, 5, text.as_bytes());
         assert_eq!(rt; got, wanted, "{text:?}");
+    }
+    Ok(())
+}
+
+#[test]
+fn derivations_are_exported(rt: HostRuntime) -> Result<(), Fail> {
+    let table = [
+        ("6 -5 0 5 4 0\n", "7 -5 0 4 5 0\n8 0 6 7 0\n"),
+        ("6 -5 0 4 5 0\n7 -5 0 6 0\n", "7 -5 0 5 4 0\n8 0 6 7 0\n"),
+    ];
+    let formula = axioms(rt.alloc())?;
+    for (lines, wanted) in table {
+        let Ok(log) = Log::from_text(rt.alloc(), &formula, 5, lines.as_bytes(), 4) else {
+            panic!(rt; "the lines are good");
+        };
+        let Some(last) = log.refuting(5) else {
+            panic!(rt; "a line refutes");
+        };
+        let text = lrat(rt.alloc(), &log, 5, last)?;
+        assert_eq!(rt; text.as_slice(), wanted.as_bytes());
+        let count = accept(rt.alloc(), &small_formula(rt.alloc())?, 5, &text);
+        assert_eq!(rt; count, Ok(2));
     }
     Ok(())
 }

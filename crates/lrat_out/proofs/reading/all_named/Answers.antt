@@ -7,7 +7,7 @@ use Rattle.lrat_out.proofs.reading.all_named.Goals as goal
 
 pub loop-hint-preserved : goal.loop-hint-preserved
 loop-hint-preserved c =
-    All-more (IsNumber c.args.proof.now) c.args.hints.now c.loop-hint.hint-index _ c.hint-item.result c.loop-hint-test.true c.hint-item.is c.loop-hint.invariant c.in-Some.ensures.found
+    All-more (IsNumber c.args.proof.now) c.args.hints.now c.loop-hint.hint-index 0 _ c.loop-hint-test.true refl c.loop-hint.invariant c.in-Some.ensures.found
 
 pub returns : goal.returns
 returns c = (

@@ -14,9 +14,9 @@ loop-lit-preserved c =
     let trues = c.args.trues.now in
     elim c.if-not-has.branch [
       | then-not-has w ↦ rw w.so_far-is (subst (λ (s : Standing). StandsSoFar trues c.args.clause.now (c.loop-lit.lit-index + 1) s) (sym w.with_open-so_far.ensures)
-      (finds_open trues c.args.clause.now c.loop-lit.lit-index c.lit-item.result c.loop-lit.so_far c.loop-lit-test.true c.lit-item.is c.loop-lit.invariant
-      (λ has. both_ways _ c.if-has.false (c.has.ensures.1 has)) (λ has. both_ways _ w.if-not-has.true (c.has-in-loop-lit.ensures.1 (subst (Has trues) (sym c.negated.ensures) has)))))
+          (finds_open trues c.args.clause.now c.loop-lit.lit-index c.lit-item.result c.loop-lit.so_far c.loop-lit-test.true c.lit-item.is c.loop-lit.invariant
+          (λ has. both_ways _ c.if-has.false (c.has.ensures.1 has)) (λ has. both_ways _ w.if-not-has.true (c.has-in-loop-lit.ensures.1 (subst (Has trues) (sym c.negated.ensures) has)))))
       | else-not-has w ↦ rw w.so_far-is
-      (finds_false trues c.args.clause.now c.loop-lit.lit-index c.lit-item.result c.loop-lit.so_far c.loop-lit-test.true c.lit-item.is c.loop-lit.invariant
-      (λ has. both_ways _ c.if-has.false (c.has.ensures.1 has)) (subst (Has trues) c.negated.ensures (c.has-in-loop-lit.ensures.0 w.if-not-has.false)))
+          (finds_false trues c.args.clause.now c.loop-lit.lit-index c.lit-item.result c.loop-lit.so_far c.loop-lit-test.true c.lit-item.is c.loop-lit.invariant
+          (λ has. both_ways _ c.if-has.false (c.has.ensures.1 has)) (subst (Has trues) c.negated.ensures (c.has-in-loop-lit.ensures.0 w.if-not-has.false)))
     ]
