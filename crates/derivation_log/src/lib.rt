@@ -12,7 +12,7 @@ mod printer;
 mod tests;
 mod words;
 
-pub use laws::{first_lines_are_derived, first_lines_are_good};
+pub use laws::{first_lines_are_derived, first_lines_are_good, good_lines_are_read_back};
 pub use line_id::LineId;
 pub use lines_fault::LinesFault;
 pub use log::Log;

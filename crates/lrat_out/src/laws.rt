@@ -19,6 +19,13 @@ pub fn a_proof_leaves_no_model()
         → (values : Valuation) → Satisfies values task.formula → ⊥ }
 {}
 
+/// A proof has one answer, out of memory aside: the number of its lines.
+pub fn a_proof_is_accepted()
+    ensures { (task : Task) (text : List ℕ) (count : ℕ) (answer : Result ℕ ALratFault) → task.vars < 2 ^ 31
+        → IsProof task text count → Answers task text answer
+        → (answer ≡ Ok count) ⊎ (answer ≡ Err NoMemory) }
+{}
+
 /// The lines that are exported for a line that refutes the goal have the form and are right, over the axioms and the
 /// goal's unit clause, and one of them is empty.
 pub fn exported_lines_are_accepted()

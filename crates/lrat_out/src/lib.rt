@@ -15,6 +15,9 @@ mod tests;
 
 pub use checking::accept;
 pub use formula_text::dimacs;
-pub use laws::{a_proof_leaves_no_model, exported_lines_are_accepted, exported_text_is_a_proof};
+pub use laws::{
+    a_proof_is_accepted, a_proof_leaves_no_model, exported_lines_are_accepted,
+    exported_text_is_a_proof,
+};
 pub use lrat_fault::LratFault;
 pub use proof_text::lrat;
