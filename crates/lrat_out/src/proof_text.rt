@@ -138,7 +138,6 @@ pub fn lrat(alloc: Global, log: &Log, goal: u32, last: u64) -> Result<Vec<u8>, N
     if count > u64::MAX - 2 {
         return Err(NoMemory);
     }
-    let _goal = goal;
     let mut trues = LitSet::new(alloc);
     let mut out = Vec::new(alloc);
     for k in 0..last {
