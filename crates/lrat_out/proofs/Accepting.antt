@@ -1,8 +1,7 @@
 -- Accepted lines, one after another, and what they are an answer to.
-use Rattle.std.proofs.Common.{◌≡◌, ◌≢◌, ℕ, zero, suc, ◌+◌, ◌<◌, ◌≤◌, Bool, true, false, List, [], ◌∷◌, ◌++◌, ◌⊎◌, inl, inr, length, refl, sym, ap, ◌∙◌, subst, arith, append_assoc, length-append}
+use Rattle.std.proofs.Common.{◌≡◌, ℕ, ◌+◌, ◌<◌, ◌≤◌, Bool, false, List, [], ◌∷◌, ◌++◌, ◌⊎◌, inl, inr, length, refl, sym, ap, ◌∙◌, subst, arith, append_assoc, length-append}
 use Rattle.std.specs.Prelude.{IsTrue, ◌↔◌, Err}
 use Rattle.std.proofs.lemmas.List.{append-nil}
-use Rattle.sat_base.specs.Literal.{Literal}
 use Rattle.sat_base.specs.Truth.{Valuation, Satisfies}
 use Rattle.certificate_lines.proofs.OneLine.{word_of, line_is_word}
 use Rattle.lrat_out.specs.declared.lrat_fault.LratFault.{LratFault}
@@ -10,7 +9,7 @@ use Rattle.lrat_out.specs.declared.lrat_fault.LratFault.TheVariants.{Line, Hint,
 use Rattle.lrat_out.specs.Lines.{ProofLine, proof_line_text, lrat_text, Hand, hand_of, after, after_all, HasForm}
 use Rattle.lrat_out.specs.Right.{IsRight, AreAccepted}
 use Rattle.lrat_out.specs.Faults.{Task, hand_after, Reads, HasNoLine, HaveEmpty, IsProof, LeavesOpen, Answers}
-use Rattle.lrat_out.specs.Proof.{TakesLine, HasWrong, HasFaultAt}
+use Rattle.lrat_out.specs.Proof.{TakesLine, HasFaultAt}
 use Rattle.lrat_out.proofs.Propagation.{no_empty_line}
 
 text_push : (lines : List ProofLine) (line : ProofLine) → lrat_text (lines ++ line ∷ []) ≡ lrat_text lines ++ proof_line_text line

@@ -1,10 +1,10 @@
 -- The exported lines have the form and are right.
-use Rattle.std.proofs.Common.{◌≡◌, ◌≢◌, ℕ, zero, suc, ◌+◌, ◌-◌, ◌<◌, ◌≤◌, ◌^◌, Bool, true, false, cond, eqb, List, [], ◌∷◌, ◌++◌, inl, inr, length, map, take, drop, slice_index_or, refl, sym, ap, ◌∙◌, subst, arith, append_assoc, length-append}
+use Rattle.std.proofs.Common.{◌≡◌, ℕ, zero, suc, ◌+◌, ◌-◌, ◌<◌, ◌≤◌, ◌^◌, Bool, true, false, cond, eqb, List, [], ◌∷◌, ◌++◌, inl, inr, length, map, take, drop, slice_index_or, refl, sym, ap, ◌∙◌, subst, arith, append_assoc, length-append}
 use Rattle.std.specs.Prelude.{All, reverse}
 use Rattle.std.proofs.lemmas.List.{append-nil, reverse-append, get_or_append_left, get_or-append_right, length-map, map-append, length-take-le, take-append-drop, get_or-take}
 use Rattle.std.proofs.lemmas.Bool.{cond-true, cond-false, eq-eqb, ne_eqb}
 use Rattle.sat_base.specs.Literal.{Literal, negated, positive_of}
-use Rattle.sat_base.specs.Clauses.{Has, EachVariable, NameOnly, HasDistinctVariables, clause_at}
+use Rattle.sat_base.specs.Clauses.{EachVariable, NameOnly, clause_at}
 use Rattle.sat_base.specs.Resolution.{ResolveTo}
 use Rattle.sat_base.specs.Derivation.{Refutes}
 use Rattle.sat_base.proofs.Clauses.{NameOnly-append}
@@ -13,13 +13,12 @@ use Rattle.sat_base.proofs.Sets.{HasDistinctVariables-ascending}
 use Rattle.sat_base.proofs.Resolving.{negated-negated}
 use Rattle.derivation_log.specs.declared.line_id.LineId.{LineId}
 use Rattle.derivation_log.specs.Log.{Derived, Lines, log_of, derived_id, clauses_of, IsLine, clause_of, chain_of, AreSound, IsSound}
-use Rattle.derivation_log.specs.Printing.{number_of}
 use Rattle.derivation_log.proofs.Logs.{clause_of-more, distinct_of}
 use Rattle.derivation_log.proofs.Texts.{no_line, at, clause_at_index}
 use Rattle.lrat_out.specs.declared.standing.Standing.{Standing}
 use Rattle.lrat_out.specs.declared.standing.Standing.TheVariants.{Holds, Fails, OneOpen, MoreOpen}
 use Rattle.lrat_out.specs.Lines.{ProofLine, Numbered, Hand, hand_of, after, after_all, HaveNumber, clause_in, IsNumber, clause_named, last_of, last_number, HasForm}
-use Rattle.lrat_out.specs.Right.{AreDenied, IsUnit, Propagates, IsRight, AreAccepted}
+use Rattle.lrat_out.specs.Right.{AreDenied, IsUnit, Propagates, AreAccepted}
 use Rattle.lrat_out.specs.Faults.{HaveEmpty}
 use Rattle.lrat_out.specs.Standing.{standing}
 use Rattle.lrat_out.specs.Export.{kept, thin, with_goal, hint_of, proof_line, proof_lines_from, closing_lines, proof_lines}

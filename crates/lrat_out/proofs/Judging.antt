@@ -1,11 +1,11 @@
 -- Judging hints, one after another.
-use Rattle.std.proofs.Common.{◌≡◌, ◌≢◌, ℕ, zero, suc, ◌+◌, ◌<◌, ◌≤◌, List, [], ◌∷◌, ◌++◌, length, map, get_or, take, drop, refl, sym, ap, ◌∙◌, subst, arith}
+use Rattle.std.proofs.Common.{◌≡◌, ℕ, zero, suc, ◌+◌, ◌<◌, ◌≤◌, List, [], ◌∷◌, ◌++◌, length, map, get_or, take, drop, refl, sym, ap, ◌∙◌, subst, arith}
 use Rattle.std.specs.Prelude.{All, ◌↔◌}
 use Rattle.std.proofs.lemmas.List.{length-map, drop_more, drop_all, get_or-map, take_more}
 use Rattle.sat_base.specs.Literal.{Literal, negated}
 use Rattle.sat_base.specs.Clauses.{HasDistinctVariables}
 use Rattle.sat_base.specs.LitSet.{Adds}
-use Rattle.sat_base.specs.Fresh.{IsConsistent, IsOpen}
+use Rattle.sat_base.specs.Fresh.{IsConsistent}
 use Rattle.sat_base.proofs.Clauses.{HasDistinctVariables-negated}
 use Rattle.sat_base.proofs.Sets.{IsConsistent-distinct, not_open}
 use Rattle.lrat_out.specs.declared.standing.Standing.{Standing}

@@ -1,16 +1,15 @@
 -- What follows by unit propagation.
-use Rattle.std.proofs.Common.{◌≡◌, ◌≢◌, ℕ, zero, suc, ◌+◌, ◌<◌, ◌≤◌, Bool, true, false, not, cond, eqb, List, [], ◌∷◌, ◌++◌, ◌⊎◌, inl, inr, length, map, refl, sym, ap, ◌∙◌, subst, arith}
+use Rattle.std.proofs.Common.{◌≡◌, ℕ, suc, Bool, true, false, not, cond, eqb, List, [], ◌∷◌, ◌++◌, inl, inr, length, map, refl, sym, ap, ◌∙◌, subst, arith}
 use Rattle.std.specs.Prelude.{IsTrue, All, ◌↔◌, nat_le, ◌&&◌}
 use Rattle.std.proofs.lemmas.Bool.{not_from_false, false_from_ne_true, cond_both, and_parts, and_from, leb-true, le-leb, both_ways, eqb-false}
 use Rattle.sat_base.specs.Literal.{Literal, negated}
-use Rattle.sat_base.specs.Clauses.{Has, HasDistinctVariables, clause_at}
+use Rattle.sat_base.specs.Clauses.{Has, clause_at}
 use Rattle.sat_base.specs.Truth.{Valuation, is_true, SatisfiesClause, Satisfies}
 use Rattle.sat_base.specs.Fresh.{IsConsistent, IsOpen}
 use Rattle.sat_base.proofs.Truth.{some_true, is_true-negated, satisfied_or_not, SatisfiesClause-at}
 use Rattle.sat_base.proofs.Resolving.{not_both_signs}
 use Rattle.sat_base.proofs.Sets.{cases_literal, Has-push, not_open}
-use Rattle.lrat_out.specs.declared.standing.Standing.{Standing}
-use Rattle.lrat_out.specs.declared.standing.Standing.TheVariants.{Holds, Fails, OneOpen, MoreOpen}
+use Rattle.lrat_out.specs.declared.standing.Standing.TheVariants.{Holds, MoreOpen}
 use Rattle.lrat_out.specs.Lines.{ProofLine, Numbered, Hand, after, HaveNumber, clause_in, IsNumber, clause_named}
 use Rattle.lrat_out.specs.Right.{AreDenied, IsUnit, Propagates, AreAccepted}
 use Rattle.lrat_out.specs.Faults.{HaveEmpty}

@@ -1,17 +1,16 @@
 -- The text of a proof, written part by part.
-use Rattle.std.proofs.Common.{◌≡◌, ◌≢◌, ℕ, zero, suc, ◌+◌, ◌-◌, ◌<◌, ◌≤◌, ◌^◌, Bool, true, false, cond, List, [], ◌∷◌, ◌++◌, length, map, take, get_or, slice_index_or, refl, sym, ap, ◌∙◌, subst, arith, append_assoc, length-append}
+use Rattle.std.proofs.Common.{◌≡◌, ℕ, suc, ◌+◌, ◌-◌, ◌<◌, ◌≤◌, ◌^◌, Bool, true, false, cond, List, [], ◌∷◌, ◌++◌, length, map, take, get_or, slice_index_or, refl, sym, ap, ◌∙◌, subst, arith, append_assoc, length-append}
 use Rattle.std.specs.Prelude.{All, reverse, decimal, codes}
 use Rattle.std.specs.List.{flat_map}
 use Rattle.std.proofs.lemmas.List.{append-nil, map-append, reverse-append, take_more, get_or_append_left, get_or_at, length-take-le}
-use Rattle.sat_base.specs.Literal.{Literal, negated}
+use Rattle.sat_base.specs.Literal.{Literal}
 use Rattle.sat_base.specs.Certificate.{literals_text, hints_text, line_text}
 use Rattle.derivation_log.specs.declared.line_id.LineId.{LineId}
-use Rattle.derivation_log.specs.Log.{Derived, Lines, log_of, derived_id, IsLine, IsSound, clause_of, hints_of}
+use Rattle.derivation_log.specs.Log.{Derived, Lines, derived_id, IsLine, IsSound, clause_of, hints_of}
 use Rattle.derivation_log.specs.Printing.{number_of}
 use Rattle.derivation_log.proofs.Texts.{no_line, at, clause_at_index, hints_at_index, follows_at}
 use Rattle.lrat_out.specs.declared.standing.Standing.{Standing}
 use Rattle.lrat_out.specs.declared.standing.Standing.TheVariants.{Holds, Fails, OneOpen, MoreOpen}
-use Rattle.lrat_out.specs.Dimacs.{clause_text, problem_text}
 use Rattle.lrat_out.specs.Lines.{ProofLine, Numbered, proof_line_text, lrat_text}
 use Rattle.lrat_out.specs.Standing.{standing}
 use Rattle.lrat_out.specs.Export.{kept, thin, hint_of, proof_line, proof_lines_from, closing_lines}

@@ -1,5 +1,5 @@
 -- How a clause stands where some literals are true.
-use Rattle.std.specs.Prelude.{ℕ, ◌==◌, Bool, true, false, if◌then◌else◌, List, [], ◌∷◌}
+use Rattle.std.specs.Prelude.{◌==◌, Bool, true, false, if◌then◌else◌, List, [], ◌∷◌}
 use Rattle.sat_base.specs.Literal.{Literal, negated}
 use Rattle.sat_base.specs.LitSet.{code_of}
 use Rattle.lrat_out.specs.declared.standing.Standing.{Standing}

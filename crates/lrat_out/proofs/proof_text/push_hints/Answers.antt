@@ -1,6 +1,5 @@
-use Rattle.std.proofs.Common.{◌≡◌, ℕ, ◌+◌, ◌<◌, ◌^◌, List, [], ◌∷◌, ◌++◌, length, sym, ap, ◌∙◌, subst, arith}
+use Rattle.std.proofs.Common.{ℕ, ◌+◌, ◌<◌, ◌^◌, [], ◌∷◌, ◌++◌, length, sym, ap, ◌∙◌, subst, arith}
 use Rattle.std.specs.Prelude.{All, decimal, codes}
-use Rattle.sat_base.specs.Literal.{Literal}
 use Rattle.derivation_log.specs.declared.line_id.LineId.{LineId}
 use Rattle.derivation_log.specs.Log.{IsLine, clause_of}
 use Rattle.derivation_log.specs.Printing.{number_of}

@@ -1,7 +1,7 @@
 use Rattle.std.proofs.Common.{◌≡◌, ◌++◌, length, map}
 use Rattle.std.specs.Prelude.{All, reverse}
 use Rattle.sat_base.specs.Certificate.{hints_text}
-use Rattle.derivation_log.specs.Log.{IsLine, IsSound}
+use Rattle.derivation_log.specs.Log.{IsLine}
 use Rattle.lrat_out.specs.Export.{thin, hint_of}
 use Rattle.lrat_out.specs.Proof.{NumbersFit}
 use Rattle.lrat_out.proofs.proof_text.push_hints.Given as goal

@@ -1,4 +1,4 @@
-use Rattle.std.proofs.Common.{ℕ, ◌+◌, List, sym, subst, refl}
+use Rattle.std.proofs.Common.{◌+◌, List, sym, subst, refl}
 use Rattle.sat_base.specs.Literal.{Literal}
 use Rattle.sat_base.specs.Fresh.{IsConsistent}
 use Rattle.lrat_out.proofs.Judging.{SameFrom, fails, holds, more_open, grown, one_open, still_consistent, none_left}

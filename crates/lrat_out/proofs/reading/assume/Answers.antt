@@ -1,6 +1,6 @@
 use Rattle.std.proofs.Common.{◌≡◌, refl, sym, ap, ◌∙◌, subst}
 use Rattle.std.proofs.lemmas.Bool.{both_ways}
-use Rattle.sat_base.specs.Literal.{Literal, negated}
+use Rattle.sat_base.specs.Literal.{Literal}
 use Rattle.sat_base.specs.Clauses.{Has}
 use Rattle.lrat_out.proofs.Assuming.{repeats, more_distinct, more_assumed}
 use Rattle.lrat_out.proofs.reading.assume.Goals as goal

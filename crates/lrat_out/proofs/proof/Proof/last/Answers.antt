@@ -1,7 +1,6 @@
 use Rattle.std.proofs.Common.{◌≡◌, ℕ, ◌-◌, ◌≤◌, List, Some, length, sym, ap, ◌∙◌, subst}
 use Rattle.std.specs.Prelude.{slice_get}
-use Rattle.lrat_out.specs.Lines.{Hand, IsNumber, last_of, last_number}
-use Rattle.lrat_out.specs.Proof.{numbered}
+use Rattle.lrat_out.specs.Lines.{Hand, IsNumber, last_number}
 use Rattle.lrat_out.proofs.Numbers.{last_some, all_within}
 use Rattle.lrat_out.proofs.proof.Proof.last.Goals as goal
 

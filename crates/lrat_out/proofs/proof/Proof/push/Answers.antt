@@ -1,5 +1,4 @@
 use Rattle.std.proofs.Common.{◌≡◌, ℕ, ◌<◌, List, [], ◌∷◌, ◌++◌, sym, ap, ◌∙◌, subst}
-use Rattle.sat_base.specs.Literal.{Literal}
 use Rattle.lrat_out.specs.Lines.{Hand, Numbered, after, last_number}
 use Rattle.lrat_out.specs.Proof.{numbered, proof_line_of}
 use Rattle.lrat_out.proofs.Numbers.{numbered_push, pushed}
