@@ -22,8 +22,8 @@ pub enum Outcome {
     Refused,
 }
 
-// The clauses 1, 2, 3, -4 and -5 4: the line -5 follows from the fifth and the fourth.
-fn formula(alloc: Global) -> Result<Formula, NoMemory> {
+/// The clauses 1, 2, 3, -4 and -5 4: the line -5 follows from the fifth and the fourth.
+pub fn formula(alloc: Global) -> Result<Formula, NoMemory> {
     let mut formula = Formula::new(alloc);
     formula.push(&[Lit::new(1, true)])?;
     formula.push(&[Lit::new(2, true)])?;

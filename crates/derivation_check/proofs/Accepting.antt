@@ -1,30 +1,20 @@
 -- How the lines that were accepted grow.
-use Rattle.std.proofs.Common.{◌≡◌, ℕ, zero, suc, ◌+◌, List, [], ◌∷◌, ◌++◌, length, sym, ap, ◌∙◌, subst, arith, append_assoc, length-append}
+use Rattle.std.proofs.Common.{◌≡◌, ℕ, suc, ◌+◌, List, [], ◌∷◌, ◌++◌, length, sym, ap, ◌∙◌, subst, arith, append_assoc, length-append}
 use Rattle.std.proofs.lemmas.List.{append-nil, length-map, map-append}
 use Rattle.qc_base.specs.Spelling.{IsFree}
 use Rattle.sat_base.specs.Literal.{Literal}
 use Rattle.sat_base.specs.Derivation.{Line, clauses_of, IsGood}
 use Rattle.sat_base.specs.Certificate.{line_text, lines_text, HasForm}
+use Rattle.certificate_lines.proofs.Lines.{lines_text-push}
+use Rattle.certificate_lines.proofs.OneLine.{IsFree-append}
 use Rattle.derivation_check.specs.Faults.{Task, AreAccepted, Reads, number_after, HasMalformedLine, HasBadLine}
 use Rattle.derivation_check.specs.Progress.{Progress, Accepts}
-
-pub IsFree-append : (xs ys : List ℕ) → IsFree 10 xs → IsFree 10 ys → IsFree 10 (xs ++ ys)
-IsFree-append [] ys fx fy k d h = fy k d h
-IsFree-append (x ∷ xs) ys fx fy zero d h = fx 0 d (omega arith)
-IsFree-append (x ∷ xs) ys fx fy (suc k) d h = IsFree-append xs ys (λ k d h. fx (suc k) d (omega arith)) fy k d (omega arith)
 
 pub Reads-more : (task : Task) (bytes more : List ℕ) (lines : List Line) (rest : List ℕ) → Reads task bytes lines rest → Reads task (bytes ++ more) lines (rest ++ more)
 Reads-more task bytes more lines rest reads = record {
   text = ap (λ (xs : List ℕ). xs ++ more) reads.text ∙ append_assoc (lines_text (length task.formula + 1) lines) rest more;
   accepted = reads.accepted;
 }
-
-lines_text-push : (first : ℕ) (lines : List Line) (line : Line) → lines_text first (lines ++ line ∷ []) ≡ lines_text first lines ++ line_text (first + length lines) line
-lines_text-push first [] line = let e : first + 0 ≡ first = omega arith in append-nil (line_text first line) ∙ ap (λ (n : ℕ). line_text n line) (sym e)
-lines_text-push first (x ∷ lines) line =
-    let e : first + 1 + length lines ≡ first + suc (length lines) = omega arith in
-    ap (λ (text : List ℕ). line_text first x ++ text) (lines_text-push (first + 1) lines line ∙ ap (λ (n : ℕ). lines_text (first + 1) lines ++ line_text n line) e)
-    ∙ sym (append_assoc (line_text first x) (lines_text (first + 1) lines) (line_text (first + suc (length lines)) line))
 
 accepted_push : (vars : ℕ) (clauses : List (List Literal)) (lines : List Line) (line : Line) → AreAccepted vars clauses lines → HasForm vars (length (clauses ++ clauses_of lines) + 1) line → IsGood vars (clauses ++ clauses_of lines) line → AreAccepted vars clauses (lines ++ line ∷ [])
 accepted_push vars clauses [] line all form good =

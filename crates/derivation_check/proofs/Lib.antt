@@ -1,14 +1,8 @@
-pub mod Spelled
-pub mod Resolved
 pub mod Refuting
-pub mod Hints
-pub mod Literals
-pub mod LineText
 pub mod Accepting
 pub mod Taking
 pub mod Feeding
 pub mod Bounds
 pub mod Accepted
-pub mod OneLine
 pub mod OneAnswer
 pub mod OneHead

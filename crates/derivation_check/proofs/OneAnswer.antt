@@ -11,7 +11,7 @@ use Rattle.derivation_check.specs.declared.cert_fault.CertFault.{CertFault}
 use Rattle.derivation_check.specs.declared.cert_fault.CertFault.TheVariants.{Line as ALine, Bad, NotRefuting, Endless, NoMemory}
 use Rattle.derivation_check.specs.Faults.{Task, AreAccepted, Reads, number_after, place_after, IsLineText, HasMalformedLine, HasBadLine, HasCutLine, IsTooLong, Answers, IsSmall}
 use Rattle.derivation_check.proofs.Accepting.{count_is}
-use Rattle.derivation_check.proofs.OneLine.{word_of, line_is_word, free_word, same_line}
+use Rattle.certificate_lines.proofs.OneLine.{word_of, line_is_word, free_word, same_line}
 
 -- ---- line feeds
 

@@ -11,7 +11,8 @@ use Rattle.derivation_check.specs.declared.cert_fault.CertFault.{CertFault}
 use Rattle.derivation_check.specs.declared.cert_fault.CertFault.TheVariants.{Line as ALine, Bad, NotRefuting, Endless, NoMemory}
 use Rattle.derivation_check.specs.Faults.{Task, Reads, HasMalformedLine, HasBadLine}
 use Rattle.derivation_check.specs.Progress.{Progress, Accepts, HasLineFault, KeepsRest}
-use Rattle.derivation_check.proofs.Accepting.{Reads-more, IsFree-append}
+use Rattle.certificate_lines.proofs.OneLine.{IsFree-append}
+use Rattle.derivation_check.proofs.Accepting.{Reads-more}
 use Rattle.sat_base.specs.Certificate.{line_text}
 use Rattle.derivation_check.specs.Faults.{number_after}
 

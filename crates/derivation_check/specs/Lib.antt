@@ -1,5 +1,3 @@
 pub mod Faults
 pub mod HeadFaults
 pub mod Progress
--- for private functions
-pub mod Items

@@ -3,14 +3,13 @@
 ghost use Rattle.std.specs.Prelude.{◌≡◌, ◌<◌, ◌≤◌, ◌^◌, ◌++◌, ◌∷◌, ◌↔◌, ℕ, List, [], length, drop, position, ◌==◌, IsTrue, IfErr, OnOk, Some, None, Err};
 ghost use Rattle.qc_base.specs.Spelling.{IsFree};
 ghost use Rattle.sat_base.specs.Literal.{positive_of};
-ghost use Rattle.sat_base.specs.Derivation.{Refutes, AnyRefutes};
+ghost use Rattle.sat_base.specs.Derivation.{AnyRefutes};
 ghost use Rattle.derivation_check.specs.declared.cert_fault.CertFault.{CertFault as ACertFault};
 ghost use Rattle.derivation_check.specs.Faults.{Task, HasFault, Answers};
 ghost use Rattle.derivation_check.specs.Progress.{Accepts, WasFed, HasLineFault, KeepsRest, task_of};
 
 use crate::cert_fault::CertFault;
-use crate::judge::is_good;
-use crate::line::read_line;
+use certificate_lines::{is_good, read_line, refutes};
 use sat_base::{Formula, Lit, Resolution};
 use std::alloc::Global;
 use std::marker::Model;
@@ -230,19 +229,6 @@ fn line_end(bytes: &[u8]) -> Option<usize>
     ensures { result ≡ position (λ byte. byte == 10) bytes.now }
 {
     bytes.iter().position(|byte| *byte == b'\n')
-}
-
-// Whether a clause has no literal other than the negated goal.
-fn refutes(clause: &[Lit], goal: Lit) -> bool
-    ensures { IsTrue result ↔ Refutes goal clause.now }
-{
-    let negated = goal.negated();
-    for &lit in clause {
-        if lit != negated {
-            return false;
-        }
-    }
-    true
 }
 
 // Whether some clause after the first so many refutes the goal.

@@ -4,10 +4,7 @@
 mod cert_fault;
 mod checker;
 mod head;
-mod items;
-mod judge;
 mod laws;
-mod line;
 
 pub use cert_fault::CertFault;
 pub use checker::Checker;

@@ -10,19 +10,19 @@ use Rattle.derivation_log.specs.Log.{Derived, Lines, log_of, derived_id, clause_
 use Rattle.derivation_log.specs.Printing.{number_of, line_of, first_lines, Covers}
 use Rattle.derivation_log.specs.Place.{lines_left, hints_left, HintsFit}
 
-no_line : Derived
+pub no_line : Derived
 no_line = record { clause = []; hints = [] }
 
 -- the line of that index
-abbrev at : List Derived → ℕ → Derived
+abbrev pub at : List Derived → ℕ → Derived
 at derived k = slice_index_or derived k no_line
 
-clause_at_index : (log : Lines) (k : ℕ) → k < length log.derived → clause_of log (derived_id (k + 1)) ≡ (at log.derived k).clause
+pub clause_at_index : (log : Lines) (k : ℕ) → k < length log.derived → clause_of log (derived_id (k + 1)) ≡ (at log.derived k).clause
 clause_at_index log k within =
     let e : k + 1 - 1 ≡ k = omega arith in
     rw e (get_or-map (λ (line : Derived). line.clause) log.derived k no_line [] within)
 
-hints_at_index : (log : Lines) (k : ℕ) → k < length log.derived → hints_of log (derived_id (k + 1)) ≡ (at log.derived k).hints
+pub hints_at_index : (log : Lines) (k : ℕ) → k < length log.derived → hints_of log (derived_id (k + 1)) ≡ (at log.derived k).hints
 hints_at_index log k within =
     let e : k + 1 - 1 ≡ k = omega arith in
     rw e (get_or-map (λ (line : Derived). line.hints) log.derived k no_line [] within)
@@ -58,7 +58,7 @@ head_printed out old head rest whole is parts = rw is (append_assoc old head res
 
 -- ---- the numbers of hints
 
-follows_at : (axioms : List (List Literal)) (before lines : List Derived) (k : ℕ) → AreSound axioms before lines → k < length lines → Follows (log_of axioms (before ++ take k lines)) (at lines k)
+pub follows_at : (axioms : List (List Literal)) (before lines : List Derived) (k : ℕ) → AreSound axioms before lines → k < length lines → Follows (log_of axioms (before ++ take k lines)) (at lines k)
 follows_at axioms before [] k sound within = absurd (omega arith)
 follows_at axioms before (line ∷ lines) zero sound within = subst (λ (xs : List Derived). Follows (log_of axioms xs) line) (sym (append_none before)) sound.0
   where

@@ -1,5 +1,6 @@
 pub mod Log
 pub mod Printing
+pub mod Reading
 pub mod Pieces
 pub mod Place
 pub mod DerivedLines

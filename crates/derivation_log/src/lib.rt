@@ -2,13 +2,16 @@
 #![tactic(auto)]
 
 mod derived_lines;
+mod from_text;
 mod laws;
 mod line_id;
+mod lines_fault;
 mod log;
 mod printer;
 mod words;
 
-pub use laws::{first_lines_are_derived, first_lines_are_good};
+pub use laws::{first_lines_are_derived, first_lines_are_good, good_lines_are_read_back};
 pub use line_id::LineId;
+pub use lines_fault::LinesFault;
 pub use log::Log;
 pub use printer::Printer;

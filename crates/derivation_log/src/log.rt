@@ -7,7 +7,7 @@ ghost use Rattle.sat_base.specs.Resolution.{Resolve, ResolveTo};
 ghost use Rattle.sat_base.specs.Derivation.{IsAscending};
 ghost use Rattle.sat_base.specs.Fresh.{IsConsistent};
 ghost use Rattle.sat_base.specs.Certificate.{certificate_text};
-ghost use Rattle.derivation_log.specs.Log.{Lines, log_of, axiom_id, derived_id, IsLine, clause_of, hints_of, chain_of, IsSound, AddsDerived};
+ghost use Rattle.derivation_log.specs.Log.{Lines, log_of, axiom_id, derived_id, IsLine, clause_of, hints_of, chain_of, IsSound, Follows, AddsDerived};
 ghost use Rattle.derivation_log.specs.Printing.{Covers, first_lines};
 
 use crate::derived_lines::DerivedLines;
@@ -131,6 +131,16 @@ impl Log {
             derived: true,
             number: self.derived.len(),
         })
+    }
+
+    // Adds a derived line that follows.
+    pub(crate) fn add(&mut self, clause: &[Lit], hints: &[LineId]) -> Result<(), NoMemory>
+        requires { Follows self.old (record { clause = clause.now; hints = hints.now }) }
+        ensures { OnOk result (self.new
+            ≡ log_of self.old.axioms (self.old.derived ++ record { clause = clause.now; hints = hints.now } ∷ [])) }
+    {
+        self.derived.push(clause, hints)?;
+        Ok(())
     }
 
     /// The clause of a line.

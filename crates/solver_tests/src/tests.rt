@@ -1,6 +1,7 @@
 //! A module for each subject.
 
 mod certificates;
+mod exported;
 mod formulas;
 mod limits;
 mod logs;

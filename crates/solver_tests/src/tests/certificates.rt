@@ -8,7 +8,7 @@ use std::alloc::Global;
 use std::test::Fail;
 
 // The clauses 1, 2, 3, -4 and -5 4.
-fn small_formula(alloc: Global) -> Result<Formula, Fail> {
+pub fn small_formula(alloc: Global) -> Result<Formula, Fail> {
     let mut formula = Formula::new(alloc);
     formula.push(&[Lit::new(1, true)])?;
     formula.push(&[Lit::new(2, true)])?;

@@ -1,0 +1,9 @@
+pub mod Spelled
+pub mod Resolved
+pub mod Hints
+pub mod Literals
+pub mod LineText
+pub mod OneLine
+pub mod Ascending
+pub mod Refuting
+pub mod Lines

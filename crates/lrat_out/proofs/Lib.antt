@@ -1,0 +1,10 @@
+pub mod Stances
+pub mod Propagation
+pub mod Thinning
+pub mod Numbers
+pub mod Assuming
+pub mod Judging
+pub mod Accepting
+pub mod Writing
+pub mod Exported
+pub mod OneReading
