@@ -1,11 +1,10 @@
 -- Whether clauses refute a goal.
-use Rattle.std.proofs.Common.{◌≡◌, ◌≢◌, ℕ, zero, suc, ◌+◌, ◌-◌, ◌<◌, ◌≤◌, List, [], ◌∷◌, inl, inr, length, get_or, take, drop, refl, sym, ◌∙◌, subst, arith}
+use Rattle.std.proofs.Common.{◌≡◌, ℕ, zero, suc, ◌+◌, ◌-◌, ◌<◌, ◌≤◌, List, [], ◌∷◌, length, drop, refl, sym, subst, arith}
 use Rattle.std.specs.Prelude.{◌↔◌}
-use Rattle.std.proofs.lemmas.List.{take_all, drop_more, drop_all}
-use Rattle.sat_base.specs.Literal.{Literal, negated}
-use Rattle.sat_base.specs.Clauses.{Has, clause_at}
+use Rattle.std.proofs.lemmas.List.{drop_more, drop_all}
+use Rattle.sat_base.specs.Literal.{Literal}
+use Rattle.sat_base.specs.Clauses.{clause_at}
 use Rattle.sat_base.specs.Derivation.{Refutes, AnyRefutes}
-use Rattle.sat_base.proofs.Sets.{Has-push, Has-get_or, more_literals}
 
 any_cons : (goal : Literal) (clause : List Literal) (clauses : List (List Literal)) → (Refutes goal clause → ⊥) → AnyRefutes goal (clause ∷ clauses) → AnyRefutes goal clauses
 any_cons goal clause clauses other (zero, found, within, is, refutes) = absurd (other (subst (Refutes goal) (sym is) refutes))
